@@ -1,8 +1,11 @@
 -- Lists of whole numbers as functions of the place.
-use Rattle.std.proofs.Common.{◌≡◌, ℕ, zero, suc, ◌<◌, ◌==◌, if◌then◌else◌, List, [], ◌∷◌, length, set, ℤ, pos, ◌+ℤ◌, ◌-ℤ◌, ◌*ℤ◌, neg_ℤ, ◌⊎◌, inl, inr, refl, sym, ap, ◌∙◌, arith, length-set, get_or-set_same, get_or-set_other}
+use Rattle.std.proofs.Common.{◌+◌, slice_index_or, sum, count_by, cond, Bool, ◌≡◌, ℕ, zero, suc, ◌<◌, ◌==◌, if◌then◌else◌, List, [], ◌∷◌, length, set, ℤ, pos, ◌+ℤ◌, ◌-ℤ◌, ◌*ℤ◌, neg_ℤ, ◌⊎◌, inl, inr, refl, sym, ap, ◌∙◌, arith, length-set, get_or-set_same, get_or-set_other}
 use Rattle.std.proofs.lemmas.Int.{ints}
 use Rattle.std.proofs.lemmas.Bool.{cases_eq}
-use Rattle.gap_base.specs.Sums.{at, natural_at, unit, moved}
+use Rattle.gap_base.specs.Sums.{sum_below, count_if, at, natural_at, unit, moved}
+use Rattle.gap_base.proofs.SumLaws.{sum_none}
+use Rattle.gap_base.proofs.Counts.{count_none}
+use Rattle.std.proofs.lemmas.List.Sums.{sum_by-cons}
 use Rattle.gap_base.proofs.Ring.{if_same, if_other, linear}
 
 cons_places : (n : ℕ) (x : ℕ → ℤ) (l : List ℤ) → ((i : ℕ) → i < n → at l i ≡ x (suc i)) → (i : ℕ) → i < suc n → at (x 0 ∷ l) i ≡ x i
@@ -42,3 +45,23 @@ lots_moved x s i j a b k p q n ea eb =
     let outer = natural_at-set (set x i a) j k b (omega (arith, length-set x i a)) in
     let inner = natural_at-set x i k a p in
     outer ∙ ap (λ z. if k == j then pos b else z) inner ∙ lots_moved_by x s i j a b k p q n ea eb (cases_eq k j) (cases_eq k i)
+
+from_front : (n : ℕ) (a : ℤ) (f : ℕ → ℤ) → sum_below (suc n) (λ k. f k) ≡ f 0 +ℤ sum_below n (λ k. f (suc k))
+unfolding sum_below
+from_front zero a f = omega (arith, linear)
+from_front (suc n) a f = let e = from_front n a f in omega (arith, linear)
+
+-- std's sum of a list of natural numbers is the sum over its places
+pub sum_places : (x : List ℕ) → pos (sum x) ≡ sum_below (length x) (natural_at x)
+sum_places [] = sym (sum_none (natural_at []))
+sum_places (a ∷ x) = let e = sum_by-cons (λ n. n) a x in let r = sum_places x in let f = from_front (length x) (pos 0) (natural_at (a ∷ x)) in let g : pos (sum (a ∷ x)) ≡ pos a +ℤ pos (sum x) = ap pos e in g ∙ ap (λ z. pos a +ℤ z) r ∙ sym f
+
+count_front : (n : ℕ) (p : ℕ → Bool) → count_if (suc n) (λ k. p k) ≡ cond (p 0) 1 0 + count_if n (λ k. p (suc k))
+unfolding count_if
+count_front zero p = omega arith
+count_front (suc n) p = let e = count_front n p in omega arith
+
+-- std's count of the numbers of a list that meet a test is the count over its places
+pub count_places : (t : ℕ → Bool) (x : List ℕ) → count_by t x ≡ count_if (length x) (λ k. t (slice_index_or x k 0))
+count_places t [] = sym (count_none (λ k. t (slice_index_or [] k 0)))
+count_places t (a ∷ x) = let e = sum_by-cons (λ n. cond (t n) 1 0) a x in let r = count_places t x in let f = count_front (length x) (λ k. t (slice_index_or (a ∷ x) k 0)) in e ∙ ap (λ (n : ℕ). cond (t a) 1 0 + n) r ∙ sym f
