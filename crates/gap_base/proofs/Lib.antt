@@ -1,0 +1,5 @@
+pub mod Ring
+pub mod SumLaws
+pub mod Counts
+pub mod Machine
+pub mod Lists
