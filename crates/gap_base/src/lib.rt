@@ -2,6 +2,12 @@
 //! decimal text both ways, and the algebra of whole numbers in which bounds are proved.
 #![tactic(auto)]
 
+mod market;
 mod memory;
+mod quotient;
+mod text;
 
+pub use market::Market;
 pub use memory::OutOfMemory;
+pub use quotient::ceil_div64;
+pub use text::{put_fraction, put_i128};
