@@ -3,5 +3,11 @@
 #![tactic(auto)]
 
 mod memory;
+mod numeral;
+mod numeral_fault;
+mod numeral_pieces;
+mod numeral_split;
 
 pub use memory::OutOfMemory;
+pub use numeral::read_numeral;
+pub use numeral_fault::{NumeralFault, Rounded};
