@@ -5,3 +5,5 @@ pub mod Machine
 pub mod Lists
 pub mod ListLaws
 pub mod MarketLaws
+pub mod NumeralLaws
+pub mod NumeralParts

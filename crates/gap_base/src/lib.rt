@@ -1,5 +1,5 @@
 //! Numbers, lists and records that every other crate stands on: lots, eighths, the market, the job,
-//! decimal text both ways, and the algebra of whole numbers in which bounds are proved.
+//! numerals and decimal text, and the algebra of whole numbers in which bounds are proved.
 #![tactic(auto)]
 
 mod eighths;
@@ -7,6 +7,10 @@ mod job;
 mod lots;
 mod market;
 mod memory;
+mod numeral;
+mod numeral_fault;
+mod numeral_pieces;
+mod numeral_split;
 mod quotient;
 mod row;
 mod text;
@@ -18,6 +22,8 @@ pub use job::Job;
 pub use lots::Lots;
 pub use market::Market;
 pub use memory::OutOfMemory;
+pub use numeral::read_numeral;
+pub use numeral_fault::{NumeralFault, Rounded};
 pub use quotient::ceil_div64;
 pub use row::Row;
 pub use text::{put_fraction, put_i128};
