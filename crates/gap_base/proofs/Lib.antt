@@ -4,3 +4,4 @@ pub mod Counts
 pub mod Machine
 pub mod Lists
 pub mod ListLaws
+pub mod MarketLaws

@@ -5,15 +5,21 @@
 mod eighths;
 mod job;
 mod lots;
+mod market;
 mod memory;
+mod quotient;
 mod row;
+mod text;
 mod weight;
 mod witness;
 
 pub use eighths::Eighths;
 pub use job::Job;
 pub use lots::Lots;
+pub use market::Market;
 pub use memory::OutOfMemory;
+pub use quotient::ceil_div64;
 pub use row::Row;
+pub use text::{put_fraction, put_i128};
 pub use weight::{Weight, Weights};
 pub use witness::Witness;
