@@ -2,3 +2,4 @@ pub mod Firsts
 pub mod Runs
 pub mod Steps
 pub mod Histories
+pub mod Ends

@@ -84,7 +84,7 @@ one_more : (v : Bool) (c : Cut) (b : ℕ) (bs : List ℕ) →
     ≡ expected c (if v then tokens_from (c.begin + length c.tail + 1) bs else joined (c.begin + length c.tail) b (tokens_from (c.begin + length c.tail + 1) bs))
 one_more true c b bs =
     let e : c.begin + length c.tail + 1 + 0 ≡ c.begin + length c.tail + 1 = omega arith in
-    rw e (append_assoc ∙ ap (λ (r : List Token). c.whole ++ r) (sym (glued-far c.begin c.tail (tokens_from (c.begin + length c.tail + 1) bs) (tokens_start (c.begin + length c.tail + 1) bs))))
+    rw e (append_assoc c.whole (at_hand c.begin c.tail) (tokens_from (c.begin + length c.tail + 1) bs) ∙ ap (λ (r : List Token). c.whole ++ r) (sym (glued-far c.begin c.tail (tokens_from (c.begin + length c.tail + 1) bs) (tokens_start (c.begin + length c.tail + 1) bs))))
 one_more false c b bs =
     let e : c.begin + length (c.tail ++ b ∷ []) ≡ c.begin + length c.tail + 1 = omega (arith, length-append c.tail (b ∷ [])) in
     rw e (ap (λ (r : List Token). c.whole ++ r) (glued-push c.begin c.tail b (tokens_from (c.begin + length c.tail + 1) bs)))

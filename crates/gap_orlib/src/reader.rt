@@ -66,15 +66,15 @@ impl Reader {
         ensures answer { result ≡ answer_of self.new }
         ensures stuck { IsStopped self.old → self.new ≡ self.old }
     {
-        if let Some(stop) = self.stop {
-            return Err(stop);
-        }
-        match read_piece(self.alloc, &mut self.begin, &mut self.tail, &mut self.table, piece) {
-            Ok(()) => Ok(()),
-            Err(stop) => {
-                self.stop = Some(stop);
-                Err(stop)
-            }
+        match self.stop {
+            Some(stop) => Err(stop),
+            None => match read_piece(self.alloc, &mut self.begin, &mut self.tail, &mut self.table, piece) {
+                Ok(()) => Ok(()),
+                Err(stop) => {
+                    self.stop = Some(stop);
+                    Err(stop)
+                }
+            },
         }
     }
 
@@ -109,7 +109,7 @@ fn end(begin: u64, tail: &[u8], table: Option<Table>) -> Result<Market, PortStop
     let size = begin + tail.len() as u64;
     match table {
         Some(sheet) => end_of_sheet(begin, tail, size, sheet),
-        None if tail.is_empty() => fault(size, PortKind::Short),
+        None if size == begin => fault(size, PortKind::Short),
         None => match whole_in(tail, 2, 256) {
             Some(_) => fault(size, PortKind::Short),
             None => fault(begin, PortKind::Count),
