@@ -1,6 +1,6 @@
 -- The two children of a part have each of its lists exactly once, and their points add up.
 
-use Rattle.std.proofs.Common.{◌≡◌, ℕ, zero, suc, ◌+◌, ◌-◌, ◌*◌, ◌<◌, ◌≤◌, Bool, true, false, ◌&&◌, ◌||◌, ltb, leb, eqb, List, [], ◌∷◌, length, slice_index_or, slice_set, IsTrue, refl, arith, ap, sym, ◌∙◌, add-mul, mul-add, length-set}
+use Rattle.std.proofs.Common.{◌≡◌, ℕ, zero, suc, ◌+◌, ◌*◌, ◌<◌, ◌≤◌, Bool, true, false, ◌&&◌, ◌||◌, leb, eqb, List, [], ◌∷◌, length, slice_index_or, slice_set, IsTrue, refl, arith, add-mul, mul-add, length-set}
 use Rattle.std.proofs.lemmas.Bool.Decides.{nat_tests}
 use Rattle.gap_box.specs.declared.cell.Cell.{Cell}
 use Rattle.gap_box.specs.declared.cell.Cell.TheVariants.{Out, Held, Free}
