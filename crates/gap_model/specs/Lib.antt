@@ -1,0 +1,6 @@
+pub mod Bounds
+pub mod Lagrangians
+pub mod Leaves
+pub mod Picks
+pub mod Ranges
+pub mod Shows
