@@ -56,5 +56,5 @@ pub record IsBound (p : Problem) : Type 0 where
   pub empty : (cells : List Cell) (x : List ℕ) → IsPartOf p cells → IsSingle cells p.count x → p.meets x ≡ false → (alpha tau third : ℤ) × IsUnit alpha tau × IsEmptied p cells (Void alpha tau third)
   -- where the count can't be met, the count alone shows it
   pub uncounted : (cells : List Cell) → IsPartOf p cells → can_meet cells p.count ≡ false → IsEmptied p cells Count
-  -- costs are at most 10^30 in size
-  pub sizes : (x : List ℕ) → IsPriced p x → unsigned_abs (p.cost x) ≤ 10 ^ 30
+  -- costs of lists that meet the limits are at most 10^30 in size
+  pub sizes : (x : List ℕ) → p.meets x ≡ true → unsigned_abs (p.cost x) ≤ 10 ^ 30
