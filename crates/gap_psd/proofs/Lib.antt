@@ -1,0 +1,3 @@
+pub mod FormLaws
+pub mod Dominance
+pub mod ShiftLaws
