@@ -3,3 +3,4 @@ pub mod SumLaws
 pub mod Counts
 pub mod Machine
 pub mod Lists
+pub mod ListLaws
