@@ -1,3 +1,3 @@
 pub mod FormLaws
-pub mod Dominance
+pub mod Semidefinite
 pub mod ShiftLaws

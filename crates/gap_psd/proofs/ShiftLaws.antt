@@ -9,7 +9,7 @@ use Rattle.gap_base.proofs.Ring.{linear, if_same, if_other}
 use Rattle.gap_base.proofs.SumLaws.{sum_same, sum_cut}
 use Rattle.gap_psd.specs.Forms.{form, gram, others, remainder, IsSemi, IsSymmetric, IsDominant}
 use Rattle.gap_psd.specs.Shifts.{ShiftValue, IsShift, r_of, d_of, with_diagonal, shifted, rest, IsDominantShift}
-use Rattle.gap_psd.proofs.Dominance.{semi_from_factor}
+use Rattle.gap_psd.proofs.Semidefinite.{semi_from_factor}
 
 with_diagonal_by : (C : ℕ → ℕ → ℤ) (D : ℕ → ℤ) (i j : ℕ) → C i j ≡ C j i → (j ≡ i) ⊎ (j ≡ i → ⊥) → with_diagonal C D i j ≡ with_diagonal C D j i
 with_diagonal_by C D i j h (inl e) = let a = if_same j i (D i) (pos 0) e in let b = if_same i j (D j) (pos 0) (sym e) in let c : D i ≡ D j = ap D (sym e) in omega (arith, linear)
@@ -54,20 +54,12 @@ zero_right : (a b : ℤ) → b ≡ pos 0 → a *ℤ b ≡ pos 0
 zero_right a b h = rw h (*ℤ-zero a)
 
 -- an entry of R R' from the places up to the lower of the two rows
-pub gram_short_left : (n : ℕ) (xs : List ℤ) (i j : ℕ) → i ≤ j → i < n → gram n (lower n xs) i j ≡ sum_below (i + 1) (λ k. entry n xs i k *ℤ entry n xs j k)
+pub gram_short_left : (s : ShiftValue) (i j : ℕ) → i < s.assets → gram s.assets (r_of s) i j ≡ sum_below (i + 1) (λ k. r_of s i k *ℤ r_of s j k)
 unfolding gram
-gram_short_left n xs i j h l =
-  sum_cut n (i + 1) (λ k. lower n xs i k *ℤ lower n xs j k) (omega arith) (λ k m. zero_left (lower n xs i k) (lower n xs j k) (lower_above n xs i k (omega arith)))
-  ∙ sum_same (i + 1) (λ k. lower n xs i k *ℤ lower n xs j k) (λ k. entry n xs i k *ℤ entry n xs j k) (λ k m. both (lower n xs i k) (lower n xs j k) (entry n xs i k) (entry n xs j k) (lower_below n xs i k (omega arith)) (lower_below n xs j k (omega arith)))
-  where
-  both : (a b c d : ℤ) → a ≡ c → b ≡ d → a *ℤ b ≡ c *ℤ d
-  both a b c d p q = rw p (rw q refl)
+gram_short_left s i j l = sum_cut s.assets (i + 1) (λ k. r_of s i k *ℤ r_of s j k) (omega arith) (λ k m. zero_left (r_of s i k) (r_of s j k) (lower_above s.assets s.factor i k (omega arith)))
 
-pub gram_short_right : (n : ℕ) (xs : List ℤ) (i j : ℕ) → j ≤ i → j < n → gram n (lower n xs) i j ≡ sum_below (j + 1) (λ k. entry n xs i k *ℤ entry n xs j k)
+pub gram_short_right : (s : ShiftValue) (i j : ℕ) → j < s.assets → gram s.assets (r_of s) i j ≡ sum_below (j + 1) (λ k. r_of s i k *ℤ r_of s j k)
 unfolding gram
-gram_short_right n xs i j h l =
-  sum_cut n (j + 1) (λ k. lower n xs i k *ℤ lower n xs j k) (omega arith) (λ k m. zero_right (lower n xs i k) (lower n xs j k) (lower_above n xs j k (omega arith)))
-  ∙ sum_same (j + 1) (λ k. lower n xs i k *ℤ lower n xs j k) (λ k. entry n xs i k *ℤ entry n xs j k) (λ k m. both (lower n xs i k) (lower n xs j k) (entry n xs i k) (entry n xs j k) (lower_below n xs i k (omega arith)) (lower_below n xs j k (omega arith)))
-  where
-  both : (a b c d : ℤ) → a ≡ c → b ≡ d → a *ℤ b ≡ c *ℤ d
-  both a b c d p q = rw p (rw q refl)
+gram_short_right s i j l = sum_cut s.assets (j + 1) (λ k. r_of s i k *ℤ r_of s j k) (omega arith) (λ k m. zero_right (r_of s i k) (r_of s j k) (lower_above s.assets s.factor j k (omega arith)))
+
+pub ruleset gram_steps = (gram_short_left, gram_short_right)

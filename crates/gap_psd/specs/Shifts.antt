@@ -1,5 +1,6 @@
 -- The shift of a table of covariances C of n assets: a lower triangular matrix R and numbers D on the diagonal. It is dominant where 10^12 (C + diag(D)) - R R' is. Own to portgap.
-use Rattle.std.specs.Prelude.{◌≡◌, ℕ, ◌+◌, ◌*◌, ◌<◌, ◌≤◌, if◌then◌else◌, ◌==◌, List, length, ℤ, pos, ◌+ℤ◌, ◌-ℤ◌, ◌*ℤ◌, ◌≤ℤ◌, unsigned_abs, replicate}
+use Rattle.std.specs.Prelude.{◌≡◌, ℕ, ◌+◌, ◌*◌, ◌<◌, ◌≤◌, if◌then◌else◌, ◌==◌, List, length, ℤ, pos, ◌+ℤ◌, ◌-ℤ◌, ◌*ℤ◌, ◌≤ℤ◌, ◌<ℤ◌, unsigned_abs, replicate, slice_set}
+use Rattle.gap_base.specs.declared.row.Row.{Row}
 use Rattle.gap_base.specs.Sums.{sum_below, at, lower}
 use Rattle.gap_psd.specs.Forms.{others, gram, remainder, IsDominant}
 
@@ -31,6 +32,14 @@ pub record IsShift (s : ShiftValue) : Type 0 where
 abbrev pub zero_shift : ℕ → ShiftValue
 zero_shift n = record { assets = n; factor = replicate (n * n) (pos 0); diagonal = replicate n (pos 0) }
 
+-- the shift with another R_ij
+abbrev pub with_r : ShiftValue → ℕ → ℕ → ℤ → ShiftValue
+with_r s i j v = record s { factor = slice_set s.factor (i * s.assets + j) v }
+
+-- the shift with another D_i
+abbrev pub with_d : ShiftValue → ℕ → ℤ → ShiftValue
+with_d s i v = record s { diagonal = slice_set s.diagonal i v }
+
 -- A = C + diag(D)
 abbrev pub with_diagonal : (ℕ → ℕ → ℤ) → (ℕ → ℤ) → ℕ → ℕ → ℤ
 with_diagonal C D i j = C i j +ℤ (if j == i then D i else pos 0)
@@ -46,6 +55,18 @@ rest C s i j = remainder s.assets (pos 1000000000000) (shifted C s) (r_of s) i j
 -- the shift is dominant for the table C
 abbrev pub IsDominantShift : (ℕ → ℕ → ℤ) → ShiftValue → Type 0
 IsDominantShift C s = IsDominant s.assets (rest C s)
+
+-- what is told of a row of the rest: its place, its entry on the diagonal and the sum of the sizes of the others
+pub record IsRowOf (C : ℕ → ℕ → ℤ) (s : ShiftValue) (told : Row) : Type 0 where
+  pub below : told.row < s.assets
+  pub diagonal_is : told.diagonal ≡ rest C s told.row told.row
+  pub others_are : told.others ≡ others s.assets (rest C s) told.row
+
+-- what is told is the first row that is not dominant
+pub record IsFirstRow (C : ℕ → ℕ → ℤ) (s : ShiftValue) (told : Row) : Type 0 where
+  pub is_row : IsRowOf C s told
+  pub outweighed : told.diagonal <ℤ told.others
+  pub dominant_before : (k : ℕ) → k < told.row → others s.assets (rest C s) k ≤ℤ rest C s k k
 
 -- the sum of D
 abbrev pub total_of : ShiftValue → ℤ
