@@ -4,3 +4,6 @@ pub mod Counts
 pub mod Machine
 pub mod Lists
 pub mod ListLaws
+pub mod MarketLaws
+pub mod NumeralLaws
+pub mod NumeralParts

@@ -7,6 +7,8 @@ mod memory_files;
 mod memory_sink;
 mod outside;
 mod plan;
+mod real_files;
+mod real_sink;
 mod steady_files;
 mod steady_sink;
 mod store;
@@ -16,7 +18,12 @@ mod trouble;
 pub use memory_files::MemoryFiles;
 pub use memory_sink::MemorySink;
 pub use outside::{Files, Sink};
+pub use real_files::RealFiles;
+pub use real_sink::RealSink;
 pub use steady_files::SteadyFiles;
 pub use steady_sink::SteadySink;
 pub use tally::Tally;
 pub use trouble::Trouble;
+
+#[cfg(test)]
+mod tests;

@@ -1,0 +1,5 @@
+pub mod Instances
+pub mod Limits
+pub mod Neighbours
+pub mod Objective
+pub mod Tables
