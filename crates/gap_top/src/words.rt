@@ -136,3 +136,53 @@ fn is_later(command: &str) -> bool
 {
     command == "solve" || command == "check" || command == "verify" || command == "demo"
 }
+
+#[cfg(test)]
+mod tests {
+    use super::*;
+    use std::alloc::{AllocError, Global};
+    use std::test::Fail;
+
+    fn words_of(alloc: Global, line: &str) -> Result<Vec<String>, AllocError> {
+        let mut words = Vec::new(alloc);
+        for word in line.split(' ') {
+            words.push(String::from_str(alloc, word)?)?;
+        }
+        Ok(words)
+    }
+
+    #[test]
+    fn reads_the_words_of_quick(rt: HostRuntime) -> Result<(), Fail> {
+        let alloc = rt.alloc();
+        let asked = Form::Quick(QuickWords {
+            held: 2,
+            lots: 10,
+            p: 1,
+            q: 1,
+            nodes: 0,
+        });
+        let rows = [
+            ("quick A 2 10 1 1 0", asked),
+            ("quick A 000000002 010 1 1 00", asked),
+            ("quick A 2 10 1 1 5", Form::NotBuilt),
+            ("quick A 2 10 1 1 100001", Form::Faulty),
+            ("quick A 0000000002 10 1 1 0", Form::Faulty),
+            ("quick A 2 10 2 1 0", Form::Faulty),
+            ("quick A +2 10 1 1 0", Form::Faulty),
+            ("quick  2 10 1 1 0", Form::Faulty),
+            ("quick A 2 10 1 1", Form::Faulty),
+            ("quick A 2 10 1 1 0 0", Form::Faulty),
+            ("solve", Form::NotBuilt),
+            ("demo 1", Form::NotBuilt),
+            ("--help", Form::Faulty),
+            ("", Form::Faulty),
+        ];
+        for (line, form) in rows {
+            let words = words_of(alloc, line)?;
+            assert_eq!(rt; form_of(&words), form, "{line}");
+        }
+        let none: [String; 0] = [];
+        assert_eq!(rt; form_of(&none), Form::Faulty, "no words");
+        Ok(())
+    }
+}
