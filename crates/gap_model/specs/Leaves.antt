@@ -1,6 +1,6 @@
 -- Leaves: which are in range for a tangent bound, and what they show on a part. Own to portgap.
 
-use Rattle.std.specs.Prelude.{ℕ, zero, suc, ◌+◌, ◌*◌, ◌/◌, Bool, true, false, cond, ◌&&◌, ◌||◌, ltb, leb, eqb, List, [], ◌∷◌, sum_by, Option, Some, None, is_some, ℤ, pos, negsuc, neg_ℤ, unsigned_abs, int_le, int_lt}
+use Rattle.std.specs.Prelude.{◌≡◌, ℕ, zero, suc, ◌+◌, ◌*◌, ◌/◌, ◌<◌, ◌≤◌, ◌≤ℤ◌, length, sum, slice_get, Bool, true, false, cond, ◌&&◌, ◌||◌, ltb, leb, eqb, List, [], ◌∷◌, sum_by, Option, Some, None, is_some, ℤ, pos, negsuc, neg_ℤ, unsigned_abs, int_le, int_lt}
 use Rattle.gap_box.specs.declared.cell.Cell.{Cell}
 use Rattle.gap_box.specs.Parts.{can_meet}
 use Rattle.gap_model.specs.declared.leaf.Entry.{Entry}
@@ -8,6 +8,7 @@ use Rattle.gap_model.specs.declared.leaf.Leaf.{Leaf}
 use Rattle.gap_model.specs.declared.leaf.Leaf.TheVariants.{Count, Void, Tangent}
 use Rattle.gap_model.specs.declared.shown.Shown.{Shown}
 use Rattle.gap_model.specs.declared.shown.Shown.TheVariants.{Nothing, AtLeast, Empty}
+use Rattle.gap_instance.specs.Instances.{InstanceValue}
 use Rattle.gap_model.specs.Settings.{Setting}
 use Rattle.gap_model.specs.Theta.{theta, void_theta}
 
@@ -36,6 +37,24 @@ abbrev pub in_range : Setting → Leaf → Bool
 in_range s Count = true
 in_range s (Void alpha tau third) = are_multipliers s.instance.turnover alpha tau
 in_range s (Tangent y alpha tau third) = ascend 0 s.instance.market.assets y.now && (leb (sum_by (λ e. e.eighths) y.now) (8 * s.instance.lots) && are_multipliers s.instance.turnover alpha tau)
+
+-- the multipliers are in range, said by facts
+pub record AreMultipliers (turnover : Option ℕ) (alpha tau : ℤ) : Type 0 where
+  pub alpha_most : unsigned_abs alpha ≤ 1000000000000000000000000000000
+  pub tau_least : pos 0 ≤ℤ tau
+  pub tau_most : unsigned_abs tau ≤ 1000000000000000000000000000000
+  pub tau_unset : turnover ≡ None → tau ≡ pos 0
+
+-- entries ascend by asset, name assets below n, and are positive
+pub record AreEntries (n : ℕ) (y : List Entry) : Type 0 where
+  pub below : (k : ℕ) (e : Entry) → slice_get y k ≡ Some e → e.asset < n
+  pub positive : (k : ℕ) (e : Entry) → slice_get y k ≡ Some e → 0 < e.eighths
+  pub rising : (j k : ℕ) (d e : Entry) → j < k → slice_get y j ≡ Some d → slice_get y k ≡ Some e → d.asset < e.asset
+
+-- a tangent point is in range: a number of eighths for each asset, all together at most 8L
+pub record IsPoint (I : InstanceValue) (y : List ℕ) : Type 0 where
+  pub count : length y ≡ I.market.assets
+  pub most : sum y ≤ 8 * I.lots
 
 -- the least whole number c with 64c at least v
 abbrev pub sixty_fourth : ℤ → ℤ

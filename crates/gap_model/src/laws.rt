@@ -1,6 +1,6 @@
 //! The laws of the tangent bound that other crates rest on, as contracts. Nothing is computed here.
 
-ghost use Rattle.std.specs.Prelude.{◌≡◌, ◌≢◌, ◌↔◌, ℕ, ◌<◌, ◌≤◌, List, Some, None, true, false, ℤ, pos, ◌*ℤ◌, ◌≤ℤ◌};
+ghost use Rattle.std.specs.Prelude.{◌≡◌, ◌≢◌, ◌↔◌, ℕ, ◌<◌, ◌≤◌, List, Option, Some, None, true, false, ℤ, pos, ◌*ℤ◌, ◌≤ℤ◌};
 ghost use Rattle.std.specs.declared.cmp.Ordering.TheVariants.{Greater};
 ghost use Rattle.gap_base.specs.Lots.{lots_at};
 ghost use Rattle.gap_box.specs.declared.cell.Cell.{Cell};
@@ -9,6 +9,7 @@ ghost use Rattle.gap_box.specs.Parts.{can_meet, IsPick};
 ghost use Rattle.gap_instance.specs.Instances.{InstanceValue};
 ghost use Rattle.gap_instance.specs.Limits.{MeetsLimits};
 ghost use Rattle.gap_instance.specs.Objective.{objective};
+ghost use Rattle.gap_model.specs.declared.leaf.Entry.{Entry};
 ghost use Rattle.gap_model.specs.declared.leaf.Leaf.{Leaf};
 ghost use Rattle.gap_model.specs.declared.shown.Shown.{Shown};
 ghost use Rattle.gap_model.specs.Settings.{Setting, IsSetting};
@@ -16,9 +17,10 @@ ghost use Rattle.gap_model.specs.Lagrangian.{lag, void_lag};
 ghost use Rattle.gap_model.specs.Theta.{theta, void_theta, IsTheta, IsVoidTheta};
 ghost use Rattle.gap_model.specs.Limits.{meets_limits};
 ghost use Rattle.gap_model.specs.Order.{ShownLe};
-ghost use Rattle.gap_model.specs.Leaves.{sixty_fourth};
+ghost use Rattle.gap_model.specs.Leaves.{sixty_fourth, ascend, are_multipliers, AreMultipliers, AreEntries};
 ghost use Rattle.gap_model.specs.Problems.{IsBound, tangent_problem};
 
+use crate::leaf::Entry;
 use crate::shown::Shown;
 
 /// The order of what leaves show: `Nothing` is below each `AtLeast`, `Empty` is above, and `AtLeast` goes by its number.
@@ -54,6 +56,12 @@ pub fn theta_reads_assets()
 pub fn tangent_bound_is_lawful()
     ensures limits { (I : InstanceValue) (x : List ℕ) → (meets_limits I x ≡ true) ↔ MeetsLimits I x }
     ensures laws { (s : Setting) → IsSetting s → IsBound (tangent_problem s) }
+{}
+
+/// The tests of the multipliers and of the entries of a leaf decide whether they are in range.
+pub fn ranges_are_decided()
+    ensures multipliers { (turnover : Option ℕ) (alpha tau : ℤ) → (are_multipliers turnover alpha tau ≡ true) ↔ AreMultipliers turnover alpha tau }
+    ensures entries { (n : ℕ) (y : List Entry) → (ascend 0 n y ≡ true) ↔ AreEntries n y }
 {}
 
 /// The 64th part of a number, brought up to a whole one, is the least whole number that 64 times isn't below it.

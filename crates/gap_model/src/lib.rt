@@ -9,8 +9,8 @@ mod shown;
 
 pub use bound::NodeBound;
 pub use laws::{
-    lagrangian_bounds, shown_order, sixty_fourth_is_least, tangent_bound_is_lawful, theta_is_least,
-    theta_reads_assets,
+    lagrangian_bounds, ranges_are_decided, shown_order, sixty_fourth_is_least,
+    tangent_bound_is_lawful, theta_is_least, theta_reads_assets,
 };
 pub use leaf::{Entry, Leaf};
 pub use shown::Shown;
