@@ -1,0 +1,3 @@
+pub mod FormLaws
+pub mod Semidefinite
+pub mod ShiftLaws
