@@ -49,8 +49,8 @@ pub fn form_of(words: &[String]) -> Form
     }
 }
 
-// The word at a place, empty where there is none.
-fn word(words: &[String], place: usize) -> &str
+/// The word at a place, counted from 0; empty where there is none.
+pub(crate) fn word(words: &[String], place: usize) -> &str
     ensures { result.now ≡ word_at (map string_bytes words.now) place }
 {
     match words.get(place) {
