@@ -3,3 +3,9 @@ pub mod Runs
 pub mod Steps
 pub mod Histories
 pub mod Ends
+pub mod Grown
+pub mod Says
+pub mod PairLaws
+pub mod Items
+pub mod MarketFields
+pub mod Words

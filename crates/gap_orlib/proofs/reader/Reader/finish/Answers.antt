@@ -1,4 +1,5 @@
 use Rattle.gap_orlib.proofs.Ends.{ends_stopped, ends_going}
+use Rattle.gap_orlib.proofs.Words.{told_in_words}
 use Rattle.gap_orlib.proofs.reader.Reader.finish.Goals as goal
 
 pub returns-in-Some-clause-market : goal.returns-in-Some-clause-market
@@ -8,4 +9,10 @@ returns-in-Some-clause-market c = λ fed h.
 pub returns-clause-market : goal.returns-clause-market
 returns-clause-market c = λ fed h.
     ends_going c.self.inside.begin c.self.inside.tail.items c.self.inside.table c.self.inside.stop c.args.self fed c.end.result c.self.view_is c.in-None.is
-      (rw c.as_slice.ensures.value at c.end.ensures.told) h
+    (rw c.as_slice.ensures.value at c.end.ensures.told) h
+
+pub returns-clause-words : goal.returns-clause-words
+returns-clause-words c = λ fed h.
+    told_in_words c.end.result fed
+      (ends_going c.self.inside.begin c.self.inside.tail.items c.self.inside.table c.self.inside.stop c.args.self fed c.end.result c.self.view_is c.in-None.is
+        (rw c.as_slice.ensures.value at c.end.ensures.told) h)
