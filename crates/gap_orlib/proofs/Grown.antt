@@ -1,5 +1,5 @@
 -- One token more: what was said of the tokens before stays.
-use Rattle.std.proofs.Common.{◌≡◌, ℕ, zero, suc, ◌+◌, ◌-◌, ◌*◌, ◌%◌, ◌<◌, ◌≤◌, ◌⊎◌, inl, inr, ⊎_elim, Bool, true, false, ◌&&◌, ◌||◌, ◌==◌, nat_le, cond, min, max, List, [], ◌∷◌, ◌++◌, length, length-append, slice_index_or, get_or, Option, Some, Result, Ok, Err, ℤ, refl, sym, ap, ◌∙◌, subst, arith}
+use Rattle.std.proofs.Common.{◌≡◌, ℕ, ◌+◌, ◌-◌, ◌*◌, ◌%◌, ◌<◌, ◌⊎◌, inl, inr, ⊎_elim, Bool, true, false, ◌&&◌, cond, min, max, List, [], ◌∷◌, ◌++◌, length, length-append, Some, ℤ, refl, sym, ap, ◌∙◌, subst, arith}
 use Rattle.std.proofs.lemmas.Bool.{cases_eq}
 use Rattle.std.proofs.lemmas.Bool.Decides.{nat_tests}
 use Rattle.std.proofs.lemmas.List.{get_or_append_left}
@@ -39,7 +39,8 @@ IsTriple_old ts x n t i j v p =
       ends = omega (arith, length_more ts x);
       first = IsAsset_old ts x (triple_at n t) n i (omega arith) p.first;
       second = IsAsset_old ts x (triple_at n t + 1) n j (omega arith) p.second;
-      value = IsValue_old ts x (triple_at n t + 2) v e p.value }
+      value = IsValue_old ts x (triple_at n t + 2) v e p.value;
+    }
 
 pub NamesPair_old : (ts : List Token) (x : Token) (n t i j : ℕ) (v : ℤ) → NamesPair ts n t i j v → NamesPair (ts ++ x ∷ []) n t i j v
 NamesPair_old ts x n t i j v (inl p) = inl (IsTriple_old ts x n t i j v p)
@@ -61,7 +62,7 @@ unfolding Values
 values_on ts x n p f g old keep new = λ k h l. ⊎_elim
     (λ e. IsValue_new ts x (p k) (g k) e (new k h e))
     (λ ne. let below : p k < length ts = omega (arith, length_more ts x, ne) in
-        IsValue_old ts x (p k) (g k) below (subst (λ (v : ℤ). IsValue ts (p k) v) (sym (keep k h below)) (old k h below)))
+    IsValue_old ts x (p k) (g k) below (subst (λ (v : ℤ). IsValue ts (p k) v) (sym (keep k h below)) (old k h below)))
     (cases_eq (p k) (length ts))
 
 -- the place of a pair among all pairs
@@ -89,10 +90,11 @@ Stay n rho rho' seen = (i j : ℕ) → i < n → j < n → ((i ≡ j → ⊥) �
 said_on : (ts : List Token) (x : Token) (n t : ℕ) (rho rho' : ℕ → ℕ → ℤ) (seen seen' : ℕ → Bool) → Stay n rho rho' seen
     → ((p : ℕ) → seen p ≡ true → seen' p ≡ true) → Said ts n t rho seen → Said (ts ++ x ∷ []) n t rho' seen'
 said_on ts x n t rho rho' seen seen' stay more s = record {
-    i = s.i;
-    j = s.j;
-    triple = IsTriple_old ts x n t s.i s.j (rho' s.i s.j) (subst (λ (v : ℤ). IsTriple ts n t s.i s.j v) (sym (stay s.i s.j s.triple.first.there s.triple.second.there s.stood)) s.triple);
-    stood = λ ne. more (spot n s.i s.j) (s.stood ne) }
+  i = s.i;
+  j = s.j;
+  triple = IsTriple_old ts x n t s.i s.j (rho' s.i s.j) (subst (λ (v : ℤ). IsTriple ts n t s.i s.j v) (sym (stay s.i s.j s.triple.first.there s.triple.second.there s.stood)) s.triple);
+  stood = λ ne. more (spot n s.i s.j) (s.stood ne);
+}
 
 pub triples_on : (ts : List Token) (x : Token) (n : ℕ) (rho rho' : ℕ → ℕ → ℤ) (seen seen' : ℕ → Bool) → Triples ts n rho seen → Stay n rho rho' seen
     → ((p : ℕ) → seen p ≡ true → seen' p ≡ true)
@@ -116,9 +118,11 @@ pub pairs_on : (ts : List Token) (x : Token) (n : ℕ) (rho rho' : ℕ → ℕ �
     → Pairs (ts ++ x ∷ []) n rho' seen'
 unfolding Pairs
 pairs_on ts x n rho rho' seen seen' old stay new = λ i j a b m. ⊎_elim
-    (λ o. let named : (t : ℕ) × NamesPair ts n t i j (rho i j) = old i j a b o in
-        (named.0, NamesPair_old ts x n named.0 i j (rho' i j)
-          (subst (λ (v : ℤ). NamesPair ts n named.0 i j v) (sym (stay i j (omega arith) b (λ ne. o))) named.1)))
+    (λ o. let named : (t : ℕ) × NamesPair ts n t i j (rho i j) = old i j a b o in (
+      named.0,
+      NamesPair_old ts x n named.0 i j (rho' i j)
+          (subst (λ (v : ℤ). NamesPair ts n named.0 i j v) (sym (stay i j (omega arith) b (λ ne. o))) named.1),
+    ))
     (λ n'. n')
     (new i j a b m)
 
@@ -129,7 +133,7 @@ count_on ts x n =
     ap (λ (k : ℕ). count_if k (is_rounded (ts ++ x ∷ []) n)) (length_more ts x)
     ∙ count_more (length ts) (is_rounded (ts ++ x ∷ []) n)
     ∙ ap (λ (k : ℕ). k + cond (is_rounded (ts ++ x ∷ []) n (length ts)) 1 0)
-        (count_same (length ts) (is_rounded (ts ++ x ∷ []) n) (is_rounded ts n) (λ k h. ap (λ (text : List ℕ). is_value_place n k && is_inexact (numeral_of text)) (text_old ts x k h)))
+    (count_same (length ts) (is_rounded (ts ++ x ∷ []) n) (is_rounded ts n) (λ k h. ap (λ (text : List ℕ). is_value_place n k && is_inexact (numeral_of text)) (text_old ts x k h)))
     ∙ ap (λ (text : List ℕ). count_if (length ts) (is_rounded ts n) + cond (is_value_place n (length ts) && is_inexact (numeral_of text)) 1 0) (text_new ts x (length ts) refl)
 
 -- the places of values

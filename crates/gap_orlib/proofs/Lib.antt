@@ -8,4 +8,5 @@ pub mod Says
 pub mod PairLaws
 pub mod Items
 pub mod MarketFields
+pub mod Reading
 pub mod Words

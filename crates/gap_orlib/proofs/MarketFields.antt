@@ -1,23 +1,21 @@
 -- The market of the bytes is the file's in its own words.
-use Rattle.std.proofs.Common.{◌≡◌, ◌≢◌, ℕ, zero, suc, ◌+◌, ◌-◌, ◌*◌, ◌/◌, ◌%◌, ◌<◌, ◌≤◌, ◌⊎◌, inl, inr, ⊎_elim, Bool, true, false, not, ◌&&◌, ◌==◌, nat_le, nat_lt, cond, if◌then◌else◌, min, max, List, [], ◌∷◌, ◌++◌, length, length-append, append_assoc, append-nil, fold, filter, replicate, slice_index_or, Option, Some, None, Result, Ok, Err, ℤ, pos, refl, sym, ap, ◌∙◌, subst, arith}
+use Rattle.std.proofs.Common.{◌≡◌, ℕ, zero, suc, ◌+◌, ◌*◌, ◌/◌, ◌%◌, ◌<◌, ◌≤◌, ⊎_elim, Bool, true, false, not, ◌&&◌, ◌==◌, nat_le, nat_lt, if◌then◌else◌, min, max, List, [], ◌∷◌, ◌++◌, length, append_assoc, append-nil, fold, replicate, slice_index_or, Option, Some, None, Result, Ok, Err, ℤ, refl, sym, ap, ◌∙◌, subst, arith}
 use Rattle.std.proofs.lemmas.Bool.{cases_eq, cases_lt}
 use Rattle.std.proofs.lemmas.Bool.Decides.{nat_tests}
 use Rattle.std.proofs.lemmas.List.{length-replicate, get_or-replicate}
 use Rattle.std.proofs.lemmas.Grind.{common_steps}
 use Rattle.std.proofs.lemmas.Nat.{div-mul-add, mod-mul-add, mul-add-lt}
-use Rattle.gap_base.specs.Sums.{count_if}
 use Rattle.gap_base.proofs.Counts.{count_none, count_more}
-use Rattle.gap_base.specs.Numerals.{numeral_of}
-use Rattle.gap_base.specs.Markets.{MarketValue, mean_of, deviation_of, rho_of, fresh_market}
+use Rattle.gap_base.specs.Markets.{MarketValue, mean_of, rho_of, fresh_market}
 use Rattle.gap_base.proofs.MarketLaws.{IsMarket-fresh}
 use Rattle.gap_orlib.specs.declared.fault.PortFault.{PortFault}
 use Rattle.gap_orlib.specs.declared.fault.PortKind.{PortKind}
 use Rattle.gap_orlib.specs.declared.wanted.Wanted.{Wanted}
 use Rattle.gap_orlib.specs.declared.wanted.Wanted.TheVariants.{Mean, Deviation, First, Second, Correlation}
 use Rattle.gap_orlib.specs.Tokens.{Token, after, is_separator, joined, tokens_from, tokens}
-use Rattle.gap_orlib.specs.Sheets.{Sheet, whole, whole_in, begun, count_told, item_told, judge}
-use Rattle.gap_orlib.specs.Ports.{limit, fault_at, placed, judged_one, judged, kept, first_from, is_missing, missing, complete, closed_at, ended, finished, port}
-use Rattle.gap_orlib.specs.Fields.{text_at, IsValue, IsTriple, NamesPair, triple_at, is_value_place, is_rounded, IsMarketOf}
+use Rattle.gap_orlib.specs.Sheets.{Sheet, whole, whole_in, begun, count_told, item_told}
+use Rattle.gap_orlib.specs.Ports.{limit, placed, judged_one, judged, kept, first_from, is_missing, missing, complete, closed_at, ended, finished, port}
+use Rattle.gap_orlib.specs.Fields.{triple_at, is_rounded, IsMarketOf}
 use Rattle.gap_orlib.proofs.Grown.{spot, Values, values_at, Said, Triples, triples_said, Pairs, pairs_named}
 use Rattle.gap_orlib.proofs.Says.{odd, even, IsPlace, deviations_of, marks_of, Core, Says}
 use Rattle.gap_orlib.proofs.Items.{within_is, says_item}
@@ -26,10 +24,10 @@ use Rattle.gap_orlib.proofs.Items.{within_is, says_item}
 unmarked : (n p : ℕ) → slice_index_or (replicate n false) p false ≡ false
 unmarked n p = ⊎_elim (λ h. get_or-replicate n p false false h) (λ h. past (replicate n false) p (rw (length-replicate n false) h)) (cases_lt p n)
   where
-  past : (l : List Bool) (k : ℕ) → length l ≤ k → slice_index_or l k false ≡ false
-  past l k h = grind (arith, common_steps)
+    past : (l : List Bool) (k : ℕ) → length l ≤ k → slice_index_or l k false ≡ false
+    past l k h = grind (arith, common_steps)
 
-fresh_sheet : ℕ → Sheet
+unfoldable pub fresh_sheet : ℕ → Sheet
 fresh_sheet n = record { market = fresh_market n; seen = replicate (n * n) false; next = Mean 0 }
 
 no_values : (x : Token) (n : ℕ) (p : ℕ → ℕ) (f : ℕ → ℤ) → ((k : ℕ) → 0 < p k) → Values (x ∷ []) n p f
@@ -58,13 +56,15 @@ core_begun x n w p q = record {
   means = no_values x n odd (mean_of (fresh_market n)) (λ k. omega arith);
   deviations = no_values x n even (deviations_of (fresh_market n)) (λ k. omega arith);
   triples = no_triples x n (rho_of (fresh_market n)) (λ p. slice_index_or (replicate (n * n) false) p false);
-  pairs = no_pairs x n (rho_of (fresh_market n)) (λ p. slice_index_or (replicate (n * n) false) p false) (unmarked (n * n)) }
+  pairs = no_pairs x n (rho_of (fresh_market n)) (λ p. slice_index_or (replicate (n * n) false) p false) (unmarked (n * n));
+}
 
-says_begun : (x : Token) (n : ℕ) → whole x.text ≡ Some n → 2 ≤ n → n ≤ 256 → Says (x ∷ []) (fresh_sheet n)
+pub says_begun : (x : Token) (n : ℕ) → whole x.text ≡ Some n → 2 ≤ n → n ≤ 256 → Says (x ∷ []) (fresh_sheet n)
 unfolding fresh_sheet
 says_begun x n w p q = record {
   core = core_begun x n w p q;
-  rounded = sym (count_more 0 (is_rounded (x ∷ []) n) ∙ ap (λ (k : ℕ). k + 0) (count_none (is_rounded (x ∷ []) n))) }
+  rounded = sym (count_more 0 (is_rounded (x ∷ []) n) ∙ ap (λ (k : ℕ). k + 0) (count_none (is_rounded (x ∷ []) n)));
+}
 
 -- what tokens said, kept by each
 Told : List Token → Result (Option Sheet) PortFault → Type 0
@@ -102,7 +102,7 @@ unfolding judged Told
 tokens_say ts s e = subst (Told ts) e (told_all ts [] (Ok None) refl)
 
 -- the tokens of few bytes are all judged
-End : ℕ → List Token → Type 0
+pub End : ℕ → List Token → Type 0
 End e [] = Unit {0}
 End e (t ∷ ts) = (after t ≤ e) × End e ts
 
@@ -111,15 +111,15 @@ unfolding End
 joined_end e place b [] h k = (omega arith, tt)
 joined_end e place b (t ∷ ts) h k = go (t.place == place + 1) refl
   where
-  go : (v : Bool) → (t.place == place + 1) ≡ v → End e (if v then record { place = place; text = b ∷ t.text } ∷ ts else record { place = place; text = b ∷ [] } ∷ t ∷ ts)
-  go true m = (let at : t.place ≡ place + 1 = grind (arith, nat_tests) in let l : place + suc (length t.text) ≤ e = omega (arith, k.0) in l, k.1)
-  go false m = (omega arith, (k.0, k.1))
+    go : (v : Bool) → (t.place == place + 1) ≡ v → End e (if v then record { place = place; text = b ∷ t.text } ∷ ts else record { place = place; text = b ∷ [] } ∷ t ∷ ts)
+    go true m = (let at : t.place ≡ place + 1 = grind (arith, nat_tests) in let l : place + suc (length t.text) ≤ e = omega (arith, k.0) in l, k.1)
+    go false m = (omega arith, (k.0, k.1))
 
 one_end : (v : Bool) (e place b : ℕ) (ts : List Token) → place + 1 ≤ e → End e ts → End e (if v then ts else joined place b ts)
 one_end true e place b ts h k = k
 one_end false e place b ts h k = joined_end e place b ts h k
 
-tokens_end : (e place : ℕ) (bytes : List ℕ) → place + length bytes ≤ e → End e (tokens_from place bytes)
+pub tokens_end : (e place : ℕ) (bytes : List ℕ) → place + length bytes ≤ e → End e (tokens_from place bytes)
 unfolding End tokens_from
 tokens_end e place [] h = tt
 tokens_end e place (b ∷ bs) h = one_end (is_separator b) e place b (tokens_from (place + 1) bs) (omega arith) (tokens_end e (place + 1) bs (omega arith))
@@ -127,7 +127,7 @@ tokens_end e place (b ∷ bs) h = one_end (is_separator b) e place b (tokens_fro
 within_limit : (n : ℕ) → n ≤ limit → nat_le n limit ≡ true
 within_limit n h = grind (arith, nat_tests)
 
-keeps_all : (ts : List Token) → End limit ts → kept ts ≡ ts
+pub keeps_all : (ts : List Token) → End limit ts → kept ts ≡ ts
 unfolding End kept
 keeps_all [] h = refl
 keeps_all (t ∷ ts) h =
@@ -223,10 +223,11 @@ in_words bytes s few h next full =
       triples = at.0;
       whole_triples = at.1;
       each_triple = λ t a.
-        let said : Said (tokens bytes) s.market.assets t (rho_of s.market) (marks_of s) = triples_said (tokens bytes) s.market.assets t (rho_of s.market) (marks_of s) h.core.triples (omega (arith, at.1)) in
-        (said.i, said.j, said.triple);
+          let said : Said (tokens bytes) s.market.assets t (rho_of s.market) (marks_of s) = triples_said (tokens bytes) s.market.assets t (rho_of s.market) (marks_of s) h.core.triples (omega (arith, at.1)) in
+          (said.i, said.j, said.triple);
       each_pair = λ i j a b. pairs_named (tokens bytes) s.market.assets (rho_of s.market) (marks_of s) i j h.core.pairs a b (all_marked s.market.assets i j s.seen a b full);
-      rounded = h.rounded }
+      rounded = h.rounded;
+    }
 
 -- a market of the bytes is one in the words of the file
 pub market_in_words : (bytes : List ℕ) (m : MarketValue) → port bytes ≡ Ok m → IsMarketOf bytes m

@@ -1,5 +1,5 @@
 -- The correlation of two assets that are not one: what the tokens say is kept by it.
-use Rattle.std.proofs.Common.{◌≡◌, ◌≢◌, ℕ, zero, suc, ◌+◌, ◌-◌, ◌*◌, ◌<◌, ◌≤◌, ◌⊎◌, inl, inr, ⊎_elim, Bool, true, false, not, ◌&&◌, ◌==◌, min, max, List, [], ◌∷◌, ◌++◌, length, slice_index_or, slice_set, Option, Some, ℤ, pos, refl, sym, ap, ◌∙◌, subst, arith}
+use Rattle.std.proofs.Common.{◌≡◌, ◌≢◌, ℕ, ◌+◌, ◌*◌, ◌<◌, ◌≤◌, ◌⊎◌, inl, inr, ⊎_elim, Bool, true, false, not, ◌&&◌, min, max, List, [], ◌∷◌, ◌++◌, length, slice_index_or, slice_set, ℤ, refl, sym, ap, ◌∙◌, subst, arith}
 use Rattle.std.specs.Int.RustNames.{unsigned_abs}
 use Rattle.std.specs.Ordering.{int_eq}
 use Rattle.std.proofs.lemmas.Bool.{cases_eq, cases_lt}
@@ -15,7 +15,7 @@ use Rattle.gap_orlib.specs.declared.wanted.Wanted.TheVariants.{First, Correlatio
 use Rattle.gap_orlib.specs.Tokens.{Token}
 use Rattle.gap_orlib.specs.Sheets.{Sheet, slot, is_conflict}
 use Rattle.gap_orlib.specs.Fields.{HasValue, IsAsset, IsTriple, NamesPair, triple_at}
-use Rattle.gap_orlib.proofs.Grown.{length_more, values_on, spot, Said, triples_on, Stay, pairs_on}
+use Rattle.gap_orlib.proofs.Grown.{length_more, values_on, spot, triples_on, Stay, pairs_on}
 use Rattle.gap_orlib.proofs.Says.{odd, even, IsPlace, deviations_of, marks_of, Core, count_kept, new_triple, triple_along}
 
 both_or : (a b i j : ℕ) → ((a ≡ i) × (b ≡ j)) ⊎ ((a ≢ i) ⊎ (b ≢ j))
@@ -37,7 +37,7 @@ no_conflict : (seen : Bool) (r v : ℤ) → (seen && not (int_eq r v)) ≡ false
 no_conflict true r v e h = by_test r v (int_eq r v) refl e
 no_conflict false r v e h = absurd (differ (sym h))
 
-spot_turned : (n i j : ℕ) → spot n i j ≡ spot n j i
+pub spot_turned : (n i j : ℕ) → spot n i j ≡ spot n j i
 spot_turned n i j = let a : min i j ≡ min j i = omega arith in let b : max i j ≡ max j i = omega arith in rw (a, b) refl
 
 -- the correlations of marked pairs stay where there is no conflict
@@ -45,16 +45,16 @@ stays : (s : Sheet) (i j : ℕ) (v : ℤ) → IsMarket s.market → i < s.market
     → Stay s.market.assets (rho_of s.market) (rho_of (with_rho s.market i j v)) (marks_of s)
 stays s i j v known p q ne calm = λ a b g h m. ⊎_elim
     (λ (hit : (a ≡ i) × (b ≡ j)).
-      let marked : marks_of s (spot s.market.assets i j) ≡ true = rw (hit.0, hit.1) at (m (λ e. ne (sym hit.0 ∙ e ∙ hit.1))) in
-      rw (hit.0, hit.1) (rho_of-one_way s.market i j v known p q ne ∙ sym (no_conflict (marks_of s (spot s.market.assets i j)) (rho_of s.market i j) v calm marked)))
+    let marked : marks_of s (spot s.market.assets i j) ≡ true = rw (hit.0, hit.1) at (m (λ e. ne (sym hit.0 ∙ e ∙ hit.1))) in
+    rw (hit.0, hit.1) (rho_of-one_way s.market i j v known p q ne ∙ sym (no_conflict (marks_of s (spot s.market.assets i j)) (rho_of s.market i j) v calm marked)))
     (λ (miss : (a ≢ i) ⊎ (b ≢ j)). ⊎_elim
-      (λ (hit : (a ≡ j) × (b ≡ i)).
-        let marked : marks_of s (spot s.market.assets j i) ≡ true = rw (hit.0, hit.1) at (m (λ e. ne (sym hit.1 ∙ sym e ∙ hit.0))) in
-        rw (hit.0, hit.1) (rho_of-other_way s.market i j v known p q ne
-          ∙ sym (no_conflict (marks_of s (spot s.market.assets i j)) (rho_of s.market i j) v calm (ap (marks_of s) (spot_turned s.market.assets i j) ∙ marked))
-          ∙ known.symmetric i j p q))
-      (λ (also : (a ≢ j) ⊎ (b ≢ i)). rho_of-others s.market i j v a b known p q ne g h miss also)
-      (both_or a b j i))
+    (λ (hit : (a ≡ j) × (b ≡ i)).
+    let marked : marks_of s (spot s.market.assets j i) ≡ true = rw (hit.0, hit.1) at (m (λ e. ne (sym hit.1 ∙ sym e ∙ hit.0))) in
+    rw (hit.0, hit.1) (rho_of-other_way s.market i j v known p q ne
+    ∙ sym (no_conflict (marks_of s (spot s.market.assets i j)) (rho_of s.market i j) v calm (ap (marks_of s) (spot_turned s.market.assets i j) ∙ marked))
+    ∙ known.symmetric i j p q))
+    (λ (also : (a ≢ j) ⊎ (b ≢ i)). rho_of-others s.market i j v a b known p q ne g h miss also)
+    (both_or a b j i))
     (both_or a b i j)
 
 marked_more : (seen : List Bool) (at p : ℕ) → at < length seen → slice_index_or seen p false ≡ true → slice_index_or (slice_set seen at true) p false ≡ true
@@ -90,7 +90,7 @@ pub core_pair : (ts : List Token) (x : Token) (s : Sheet) (i j : ℕ) (v : ℤ) 
 unfolding IsPlace
 core_pair ts x s i j v h e ne value size calm =
     let at : (t : ℕ) × (length ts ≡ triple_at s.market.assets t + 2) × IsAsset ts (triple_at s.market.assets t) s.market.assets i × IsAsset ts (triple_at s.market.assets t + 1) s.market.assets j
-        = subst (λ (w : Wanted). IsPlace ts s.market.assets w) e h.place in
+    = subst (λ (w : Wanted). IsPlace ts s.market.assets w) e h.place in
     let n = s.market.assets in
     let p : i < s.market.assets = at.2.there in
     let q : j < s.market.assets = at.3.there in
@@ -107,10 +107,12 @@ core_pair ts x s i j v h e ne value size calm =
       means = values_on ts x n odd (mean_of s.market) (mean_of s.market) h.means (λ k a b. refl) (λ k a b. absurd (omega (arith, at.1)));
       deviations = values_on ts x n even (deviations_of s.market) (deviations_of s.market) h.deviations (λ k a b. refl) (λ k a b. absurd (omega (arith, at.1)));
       triples = triples_on ts x n (rho_of s.market) (rho_of (with_rho s.market i j v)) (marks_of s) seen' h.triples stay (λ k m. marked_more s.seen (spot s.market.assets i j) k in_seen m)
-        (λ t b. record {
-          i = i;
-          j = j;
-          triple = triple_along (ts ++ x ∷ []) n at.0 t i j v (rho_of (with_rho s.market i j v) i j) (omega (arith, at.1)) (sym (rho_of-one_way s.market i j v h.market p q ne)) triple;
-          stood = λ k. get_or-set_at s.seen (spot s.market.assets i j) (spot s.market.assets i j) true false refl in_seen });
+          (λ t b. record {
+            i = i;
+            j = j;
+            triple = triple_along (ts ++ x ∷ []) n at.0 t i j v (rho_of (with_rho s.market i j v) i j) (omega (arith, at.1)) (sym (rho_of-one_way s.market i j v h.market p q ne)) triple;
+            stood = λ k. get_or-set_at s.seen (spot s.market.assets i j) (spot s.market.assets i j) true false refl in_seen;
+          });
       pairs = pairs_on ts x n (rho_of s.market) (rho_of (with_rho s.market i j v)) (marks_of s) seen' h.pairs stay
-        (newly (ts ++ x ∷ []) s at.0 i j v h.market h.marks p q ne triple) }
+          (newly (ts ++ x ∷ []) s at.0 i j v h.market h.marks p q ne triple);
+    }

@@ -1,27 +1,23 @@
 -- What the tokens so far say is what the sheet has: kept by each token.
-use Rattle.std.proofs.Common.{◌≡◌, ◌≢◌, ℕ, zero, suc, ◌+◌, ◌-◌, ◌*◌, ◌<◌, ◌≤◌, ◌⊎◌, inl, inr, ⊎_elim, Bool, true, false, not, ◌&&◌, ◌==◌, nat_le, nat_lt, cond, if◌then◌else◌, min, max, List, [], ◌∷◌, ◌++◌, length, slice_index_or, slice_set, get_or, Option, Some, None, Result, Ok, Err, ℤ, pos, negsuc, refl, sym, ap, ◌∙◌, subst, arith}
+use Rattle.std.proofs.Common.{◌≡◌, ℕ, ◌+◌, ◌*◌, ◌<◌, ◌≤◌, inl, Bool, true, false, nat_lt, if◌then◌else◌, List, [], ◌∷◌, ◌++◌, length, slice_index_or, Some, ℤ, pos, refl, sym, ap, ◌∙◌, subst, arith}
 use Rattle.std.specs.Int.RustNames.{unsigned_abs}
-use Rattle.std.specs.Ordering.{int_eq}
-use Rattle.std.proofs.lemmas.Bool.{cases_eq, cases_lt}
 use Rattle.std.proofs.lemmas.Bool.Decides.{nat_tests}
-use Rattle.std.proofs.lemmas.List.{length-set, get_or-set_other}
+use Rattle.std.proofs.lemmas.List.{get_or-set_other}
 use Rattle.std.proofs.lemmas.Grind.{get_or-set_at}
-use Rattle.std.proofs.lemmas.Nat.{mul-add-lt}
 use Rattle.gap_base.specs.Sums.{count_if}
 use Rattle.gap_base.specs.Numerals.{numeral_of}
-use Rattle.gap_base.specs.declared.numeral_fault.Rounded.{Rounded}
-use Rattle.gap_base.specs.declared.numeral_fault.NumeralFault.{NumeralFault}
-use Rattle.gap_base.specs.Markets.{MarketValue, IsMarket, mean_of, deviation_of, rho_of, with_mean, with_deviation, with_rho, with_one_more_rounded}
-use Rattle.gap_base.proofs.MarketLaws.{IsMarket-mean, IsMarket-deviation, IsMarket-rho, IsMarket-rounded, rho_of-same, rho_of-one_way, rho_of-other_way, rho_of-others, place_row, place_column}
+use Rattle.gap_base.specs.Markets.{MarketValue, IsMarket, mean_of, deviation_of, rho_of, with_mean, with_deviation}
+use Rattle.gap_base.proofs.MarketLaws.{IsMarket-mean, IsMarket-deviation, IsMarket-rounded, rho_of-same}
 use Rattle.gap_orlib.specs.declared.wanted.Wanted.{Wanted}
 use Rattle.gap_orlib.specs.declared.wanted.Wanted.TheVariants.{Mean, Deviation, First, Second, Correlation}
 use Rattle.gap_orlib.specs.Tokens.{Token}
-use Rattle.gap_orlib.specs.Sheets.{Sheet, whole, within, slot, counted, behind_deviation}
-use Rattle.gap_orlib.specs.Fields.{text_at, HasValue, IsValue, IsAsset, IsTriple, NamesPair, triple_at, is_value_place, is_inexact, is_rounded}
-use Rattle.gap_orlib.proofs.Grown.{length_more, text_old, text_new, IsAsset_old, IsAsset_new, IsValue_new, Values, values_on, spot, Said, Triples, triples_on, triples_said, Stay, Pairs, pairs_on, count_on, mean_place, deviation_place, correlation_place, first_place, second_place}
+use Rattle.gap_orlib.specs.Sheets.{Sheet, whole, counted, behind_deviation}
+use Rattle.gap_orlib.specs.Fields.{text_at, HasValue, IsAsset, IsTriple, triple_at, is_rounded}
+use Rattle.gap_orlib.proofs.Grown.{length_more, text_old, IsAsset_old, IsAsset_new, IsValue_new, Values, values_on, Triples, triples_on, Pairs, pairs_on}
 
 abbrev pub odd : ℕ → ℕ
 odd k = 2 * k + 1
+
 abbrev pub even : ℕ → ℕ
 even k = 2 * k + 2
 
@@ -68,7 +64,8 @@ core_counted false ts s h = record {
   means = h.means;
   deviations = h.deviations;
   triples = h.triples;
-  pairs = h.pairs }
+  pairs = h.pairs;
+}
 
 pub count_kept : (ts : List Token) (x : Token) (s : Sheet) → 0 < length ts → whole (text_at ts 0) ≡ Some s.market.assets → whole (text_at (ts ++ x ∷ []) 0) ≡ Some s.market.assets
 count_kept ts x s h e = ap whole (text_old ts x 0 h) ∙ e
@@ -88,11 +85,12 @@ core_mean ts x s k v h e value size =
       marks = h.marks;
       place = (at.0, omega (arith, length_more ts x));
       means = values_on ts x n odd (mean_of s.market) (mean_of (with_mean s.market k v)) h.means
-        (λ i a b. get_or-set_other s.market.means k i v (pos 0) (λ (q : i ≡ k). absurd (omega arith)))
-        (λ i a b. let same : i ≡ k = omega arith in subst (λ (z : ℤ). HasValue (numeral_of x.text) z) (sym (get_or-set_at s.market.means k i v (pos 0) same k_in)) value);
+          (λ i a b. get_or-set_other s.market.means k i v (pos 0) (λ (q : i ≡ k). absurd (omega arith)))
+          (λ i a b. let same : i ≡ k = omega arith in subst (λ (z : ℤ). HasValue (numeral_of x.text) z) (sym (get_or-set_at s.market.means k i v (pos 0) same k_in)) value);
       deviations = values_on ts x n even (deviations_of s.market) (deviations_of s.market) h.deviations (λ i a b. refl) (λ i a b. absurd (omega arith));
       triples = triples_on ts x n (rho_of s.market) (rho_of s.market) (marks_of s) (marks_of s) h.triples (λ i j a b c. refl) (λ p m. m) (λ t b. absurd (omega arith));
-      pairs = pairs_on ts x n (rho_of s.market) (rho_of s.market) (marks_of s) (marks_of s) h.pairs (λ i j a b c. refl) (λ i j a b m. inl m) }
+      pairs = pairs_on ts x n (rho_of s.market) (rho_of s.market) (marks_of s) (marks_of s) h.pairs (λ i j a b c. refl) (λ i j a b m. inl m);
+    }
 
 place_behind : (ts : List Token) (n k : ℕ) (v : Bool) → k < n → nat_lt (k + 1) n ≡ v → length ts ≡ 2 * k + 2 + 1 → IsPlace ts n (if v then Mean (k + 1) else First)
 unfolding IsPlace
@@ -115,10 +113,11 @@ core_deviation ts x s k v h e value size =
       place = place_behind (ts ++ x ∷ []) n k (nat_lt (k + 1) n) at.0 refl (omega (arith, length_more ts x));
       means = values_on ts x n odd (mean_of s.market) (mean_of s.market) h.means (λ i a b. refl) (λ i a b. absurd (omega arith));
       deviations = values_on ts x n even (deviations_of s.market) (deviations_of (with_deviation s.market k v)) h.deviations
-        (λ i a b. ap pos (get_or-set_other s.market.deviations k i v 0 (λ (q : i ≡ k). absurd (omega arith))))
-        (λ i a b. let same : i ≡ k = omega arith in subst (λ (z : ℤ). HasValue (numeral_of x.text) z) (ap pos (sym (get_or-set_at s.market.deviations k i v 0 same k_in))) value);
+          (λ i a b. ap pos (get_or-set_other s.market.deviations k i v 0 (λ (q : i ≡ k). absurd (omega arith))))
+          (λ i a b. let same : i ≡ k = omega arith in subst (λ (z : ℤ). HasValue (numeral_of x.text) z) (ap pos (sym (get_or-set_at s.market.deviations k i v 0 same k_in))) value);
       triples = triples_on ts x n (rho_of s.market) (rho_of s.market) (marks_of s) (marks_of s) h.triples (λ i j a b c. refl) (λ p m. m) (λ t b. absurd (omega arith));
-      pairs = pairs_on ts x n (rho_of s.market) (rho_of s.market) (marks_of s) (marks_of s) h.pairs (λ i j a b c. refl) (λ i j a b m. inl m) }
+      pairs = pairs_on ts x n (rho_of s.market) (rho_of s.market) (marks_of s) (marks_of s) h.pairs (λ i j a b c. refl) (λ i j a b m. inl m);
+    }
 
 -- the number of a triple's first asset
 pub core_first : (ts : List Token) (x : Token) (s : Sheet) (i : ℕ) → Core ts s → s.next ≡ First → whole x.text ≡ Some (i + 1) → i < s.market.assets
@@ -136,7 +135,8 @@ core_first ts x s i h e number there =
       means = values_on ts x n odd (mean_of s.market) (mean_of s.market) h.means (λ k a b. refl) (λ k a b. absurd (omega (arith, at.1)));
       deviations = values_on ts x n even (deviations_of s.market) (deviations_of s.market) h.deviations (λ k a b. refl) (λ k a b. absurd (omega (arith, at.1)));
       triples = triples_on ts x n (rho_of s.market) (rho_of s.market) (marks_of s) (marks_of s) h.triples (λ i j a b c. refl) (λ p m. m) (λ t b. absurd (omega (arith, at.1)));
-      pairs = pairs_on ts x n (rho_of s.market) (rho_of s.market) (marks_of s) (marks_of s) h.pairs (λ i j a b c. refl) (λ i j a b m. inl m) }
+      pairs = pairs_on ts x n (rho_of s.market) (rho_of s.market) (marks_of s) (marks_of s) h.pairs (λ i j a b c. refl) (λ i j a b m. inl m);
+    }
 
 -- the number of a triple's second asset
 pub core_second : (ts : List Token) (x : Token) (s : Sheet) (i j : ℕ) → Core ts s → s.next ≡ Second i → whole x.text ≡ Some (j + 1) → j < s.market.assets
@@ -150,21 +150,27 @@ core_second ts x s i j h e number there =
       some = omega (arith, length_more ts x);
       count = count_kept ts x s h.some h.count;
       marks = h.marks;
-      place = (at.0, let l : length (ts ++ x ∷ []) ≡ triple_at n at.0 + 2 = omega (arith, length_more ts x, at.1) in l,
-        IsAsset_old ts x (triple_at n at.0) n i (omega (arith, at.1)) at.2, IsAsset_new ts x (triple_at n at.0 + 1) n j (sym at.1) number there);
+      place = (
+        at.0,
+        let l : length (ts ++ x ∷ []) ≡ triple_at n at.0 + 2 = omega (arith, length_more ts x, at.1) in l,
+        IsAsset_old ts x (triple_at n at.0) n i (omega (arith, at.1)) at.2,
+        IsAsset_new ts x (triple_at n at.0 + 1) n j (sym at.1) number there,
+      );
       means = values_on ts x n odd (mean_of s.market) (mean_of s.market) h.means (λ k a b. refl) (λ k a b. absurd (omega (arith, at.1)));
       deviations = values_on ts x n even (deviations_of s.market) (deviations_of s.market) h.deviations (λ k a b. refl) (λ k a b. absurd (omega (arith, at.1)));
       triples = triples_on ts x n (rho_of s.market) (rho_of s.market) (marks_of s) (marks_of s) h.triples (λ i j a b c. refl) (λ p m. m) (λ t b. absurd (omega (arith, at.1)));
-      pairs = pairs_on ts x n (rho_of s.market) (rho_of s.market) (marks_of s) (marks_of s) h.pairs (λ i j a b c. refl) (λ i j a b m. inl m) }
+      pairs = pairs_on ts x n (rho_of s.market) (rho_of s.market) (marks_of s) (marks_of s) h.pairs (λ i j a b c. refl) (λ i j a b m. inl m);
+    }
 
 -- the new triple
 pub new_triple : (ts : List Token) (x : Token) (n t i j : ℕ) (v : ℤ) → length ts ≡ triple_at n t + 2 → IsAsset ts (triple_at n t) n i → IsAsset ts (triple_at n t + 1) n j
     → HasValue (numeral_of x.text) v → IsTriple (ts ++ x ∷ []) n t i j v
 new_triple ts x n t i j v l a b value = record {
-    ends = omega (arith, length_more ts x);
-    first = IsAsset_old ts x (triple_at n t) n i (omega arith) a;
-    second = IsAsset_old ts x (triple_at n t + 1) n j (omega arith) b;
-    value = IsValue_new ts x (triple_at n t + 2) v (sym l) value }
+  ends = omega (arith, length_more ts x);
+  first = IsAsset_old ts x (triple_at n t) n i (omega arith) a;
+  second = IsAsset_old ts x (triple_at n t + 1) n j (omega arith) b;
+  value = IsValue_new ts x (triple_at n t + 2) v (sym l) value;
+}
 
 pub triple_along : (ts : List Token) (n t t' i j : ℕ) (v v' : ℤ) → t ≡ t' → v ≡ v' → IsTriple ts n t i j v → IsTriple ts n t' i j v'
 triple_along ts n t t' i j v v' e f h = subst (λ (z : ℤ). IsTriple ts n t' i j z) f (subst (λ (k : ℕ). IsTriple ts n k i j v) e h)
@@ -175,7 +181,7 @@ pub core_diagonal : (ts : List Token) (x : Token) (s : Sheet) (i j : ℕ) → Co
 unfolding IsPlace
 core_diagonal ts x s i j h e same value =
     let at : (t : ℕ) × (length ts ≡ triple_at s.market.assets t + 2) × IsAsset ts (triple_at s.market.assets t) s.market.assets i × IsAsset ts (triple_at s.market.assets t + 1) s.market.assets j
-        = subst (λ (w : Wanted). IsPlace ts s.market.assets w) e h.place in
+    = subst (λ (w : Wanted). IsPlace ts s.market.assets w) e h.place in
     let n = s.market.assets in
     record {
       market = h.market;
@@ -186,10 +192,12 @@ core_diagonal ts x s i j h e same value =
       means = values_on ts x n odd (mean_of s.market) (mean_of s.market) h.means (λ k a b. refl) (λ k a b. absurd (omega (arith, at.1)));
       deviations = values_on ts x n even (deviations_of s.market) (deviations_of s.market) h.deviations (λ k a b. refl) (λ k a b. absurd (omega (arith, at.1)));
       triples = triples_on ts x n (rho_of s.market) (rho_of s.market) (marks_of s) (marks_of s) h.triples (λ i j a b c. refl) (λ p m. m)
-        (λ t b. record {
-          i = i;
-          j = j;
-          triple = triple_along (ts ++ x ∷ []) n at.0 t i j (pos 1000000) (rho_of s.market i j) (omega (arith, at.1)) (sym (rho_of-same s.market i j same))
-            (new_triple ts x n at.0 i j (pos 1000000) at.1 at.2 at.3 value);
-          stood = λ ne. absurd (ne same) });
-      pairs = pairs_on ts x n (rho_of s.market) (rho_of s.market) (marks_of s) (marks_of s) h.pairs (λ i j a b c. refl) (λ i j a b m. inl m) }
+          (λ t b. record {
+            i = i;
+            j = j;
+            triple = triple_along (ts ++ x ∷ []) n at.0 t i j (pos 1000000) (rho_of s.market i j) (omega (arith, at.1)) (sym (rho_of-same s.market i j same))
+                (new_triple ts x n at.0 i j (pos 1000000) at.1 at.2 at.3 value);
+            stood = λ ne. absurd (ne same);
+          });
+      pairs = pairs_on ts x n (rho_of s.market) (rho_of s.market) (marks_of s) (marks_of s) h.pairs (λ i j a b c. refl) (λ i j a b m. inl m);
+    }

@@ -1,7 +1,7 @@
 -- The market of the bytes in the words of the file: the means and the deviations, the triples, each pair
 -- of assets, and how many numerals were rounded. The order of the items is the OR-Library's; the rest is
 -- own to portgap.
-use Rattle.std.specs.Prelude.{ℕ, ℤ, pos, ◌+◌, ◌-◌, ◌*◌, ◌%◌, ◌<◌, ◌≤◌, ◌≡◌, ◌⊎◌, Bool, true, false, not, ◌==◌, ◌&&◌, ◌||◌, nat_le, List, [], length, slice_index_or, Option, Some, Result, Ok, Err}
+use Rattle.std.specs.Prelude.{ℕ, ℤ, pos, ◌+◌, ◌-◌, ◌*◌, ◌%◌, ◌<◌, ◌≤◌, ◌≡◌, ◌⊎◌, Bool, false, not, ◌==◌, ◌&&◌, ◌||◌, nat_le, List, [], length, slice_index_or, Some, Result, Ok, Err}
 use Rattle.gap_base.specs.Sums.{count_if}
 use Rattle.gap_base.specs.Numerals.{numeral_of}
 use Rattle.gap_base.specs.declared.numeral_fault.Rounded.{Rounded}
