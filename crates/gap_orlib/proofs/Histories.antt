@@ -1,6 +1,6 @@
 -- What a reader that was fed some bytes knows of them.
-use Rattle.std.proofs.Common.{◌≡◌, ℕ, ◌+◌, ◌⊎◌, inl, inr, Bool, true, false, nat_le, List, [], ◌∷◌, ◌++◌, length, append_assoc, append-nil, refl, sym, ap, ◌∙◌, subst, arith, fold, take, drop, cond, if◌then◌else◌, Option, Some, None, Result, Ok, Err}
-use Rattle.std.proofs.lemmas.List.Sums.{fold_push, fold-append}
+use Rattle.std.proofs.Common.{◌≡◌, ℕ, ◌+◌, inl, inr, Bool, true, false, nat_le, List, [], ◌∷◌, ◌++◌, length, refl, sym, ap, ◌∙◌, subst, fold, take, drop, Option, Some, None, Result, Ok, Err}
+use Rattle.std.proofs.lemmas.List.Sums.{fold-append}
 use Rattle.std.proofs.lemmas.List.Folds.{fold_stays}
 use Rattle.std.proofs.lemmas.List.{take-append-drop}
 use Rattle.gap_orlib.specs.declared.fault.PortStop.{PortStop}
@@ -8,11 +8,10 @@ use Rattle.gap_orlib.specs.declared.fault.PortStop.TheVariants.{Fault, OutOfMemo
 use Rattle.gap_orlib.specs.Answers.{NextIs}
 use Rattle.gap_base.specs.Markets.{MarketValue}
 use Rattle.gap_orlib.specs.declared.fault.PortFault.{PortFault}
-use Rattle.gap_orlib.specs.declared.fault.PortKind.TheVariants.{TooLong}
-use Rattle.gap_orlib.specs.Tokens.{Token, tokens}
+use Rattle.gap_orlib.specs.Tokens.{Token}
 use Rattle.gap_orlib.specs.Sheets.{Sheet}
-use Rattle.gap_orlib.specs.Ports.{limit, fault_at, judged, kept, finished, port}
-use Rattle.gap_orlib.specs.States.{Cut, at_hand, cut_byte, cut, Going, State, going, stopped, no_memory, stated, state_of, HasRead, with_last, end_of, after_byte, over}
+use Rattle.gap_orlib.specs.Ports.{limit, judged, kept, finished, port}
+use Rattle.gap_orlib.specs.States.{Cut, cut_byte, cut, Going, State, stopped, no_memory, stated, state_of, HasRead, end_of, after_byte, over}
 use Rattle.gap_orlib.proofs.Runs.{all_of, tokens_are_runs, cut_size}
 use Rattle.gap_orlib.proofs.Steps.{then_last, hand_kept, hand_late, step}
 
@@ -31,7 +30,7 @@ pub has_read_more : (s : State) (fed more : List ℕ) → HasRead s fed → HasR
 unfolding cut
 has_read_more s fed more (inl e) =
     inl (ap (λ (s : State). over s more) e ∙ sym (cut_over (fold cut_byte (record { whole = []; begin = 0; tail = [] }) fed) more)
-      ∙ ap state_of (sym (fold-append cut_byte (record { whole = []; begin = 0; tail = [] }) fed more)))
+    ∙ ap state_of (sym (fold-append cut_byte (record { whole = []; begin = 0; tail = [] }) fed more)))
 has_read_more s fed more (inr e) = inr (ap (λ (s : State). over s more) e ∙ over_no_memory more)
 
 -- what the end answers where the token at hand is within the limit, and where it isn't
@@ -79,5 +78,5 @@ pub end_told : (s : State) (fed : List ℕ) (r : Result MarketValue PortFault) �
 end_told s fed r (inl e) h = some_same r (port fed) (sym h ∙ ap end_of e ∙ end_is_port fed)
 end_told s fed r (inr e) h = absurd (none_some r (sym (ap end_of e) ∙ h))
   where
-  none_some : (r : Result MarketValue PortFault) → None ≡ Some r → ⊥
-  none_some r e = cc
+    none_some : (r : Result MarketValue PortFault) → None ≡ Some r → ⊥
+    none_some r e = cc

@@ -3,3 +3,10 @@ pub mod Runs
 pub mod Steps
 pub mod Histories
 pub mod Ends
+pub mod Grown
+pub mod Says
+pub mod PairLaws
+pub mod Items
+pub mod MarketFields
+pub mod Reading
+pub mod Words

@@ -1,5 +1,5 @@
 -- The cut of a text, byte by byte, gives the tokens of the text.
-use Rattle.std.proofs.Common.{◌≡◌, ℕ, zero, suc, ◌+◌, ◌<◌, ◌≤◌, Bool, true, false, ◌==◌, List, [], ◌∷◌, ◌++◌, length, length-append, append_assoc, append-nil, refl, sym, ap, ◌∙◌, subst, arith, fold, if◌then◌else◌, cond}
+use Rattle.std.proofs.Common.{◌≡◌, ℕ, suc, ◌+◌, ◌≤◌, Bool, true, false, ◌==◌, List, [], ◌∷◌, ◌++◌, length, length-append, append_assoc, refl, sym, ap, ◌∙◌, arith, fold, if◌then◌else◌}
 use Rattle.std.proofs.lemmas.Bool.Decides.{nat_tests}
 use Rattle.gap_orlib.specs.Tokens.{Token, is_separator, joined, tokens_from, tokens}
 use Rattle.gap_orlib.specs.States.{Cut, at_hand, cut_byte, cut}
@@ -57,9 +57,9 @@ unfolding StartsFrom
 joined_starts place b [] = omega arith
 joined_starts place b (t ∷ ts) = both (t.place == place + 1) place b t ts
   where
-  both : (v : Bool) (place b : ℕ) (t : Token) (ts : List Token) → StartsFrom place (if v then record { place = place; text = b ∷ t.text } ∷ ts else record { place = place; text = b ∷ [] } ∷ t ∷ ts)
-  both true place b t ts = omega arith
-  both false place b t ts = omega arith
+    both : (v : Bool) (place b : ℕ) (t : Token) (ts : List Token) → StartsFrom place (if v then record { place = place; text = b ∷ t.text } ∷ ts else record { place = place; text = b ∷ [] } ∷ t ∷ ts)
+    both true place b t ts = omega arith
+    both false place b t ts = omega arith
 
 one_starts : (v : Bool) (place b : ℕ) (rest : List Token) → StartsFrom (place + 1) rest → StartsFrom place (if v then rest else joined place b rest)
 one_starts true place b rest h = starts_lower (place + 1) place rest (omega arith) h

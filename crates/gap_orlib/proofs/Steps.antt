@@ -1,14 +1,13 @@
 -- One byte more: where a reader stands then, by where it stood.
-use Rattle.std.proofs.Common.{◌≡◌, ℕ, zero, suc, ◌+◌, ◌<◌, ◌≤◌, Bool, true, false, nat_le, nat_lt, List, [], ◌∷◌, ◌++◌, length, length-append, append-nil, refl, sym, ap, ◌∙◌, arith, fold, filter, if◌then◌else◌, cond, Option, Some, None, Result, Ok, Err}
+use Rattle.std.proofs.Common.{◌≡◌, ℕ, ◌+◌, Bool, true, false, nat_le, nat_lt, List, [], ◌∷◌, ◌++◌, length, length-append, append-nil, refl, ap, ◌∙◌, arith, filter, Option, None, Result, Ok, Err}
 use Rattle.std.proofs.lemmas.Bool.Decides.{nat_tests}
 use Rattle.std.proofs.lemmas.List.Sums.{fold_push}
 use Rattle.std.proofs.lemmas.List.Elements.{filter-append}
 use Rattle.gap_orlib.specs.declared.fault.PortFault.{PortFault}
-use Rattle.gap_orlib.specs.declared.fault.PortKind.TheVariants.{TooLong}
 use Rattle.gap_orlib.specs.Tokens.{Token, after, is_separator}
-use Rattle.gap_orlib.specs.Sheets.{Sheet, judge}
-use Rattle.gap_orlib.specs.Ports.{limit, fault_at, placed, judged_one, judged, kept}
-use Rattle.gap_orlib.specs.States.{Cut, at_hand, cut_byte, Going, State, going, stopped, stated, state_of, with_last, behind_separator, after_byte}
+use Rattle.gap_orlib.specs.Sheets.{Sheet}
+use Rattle.gap_orlib.specs.Ports.{limit, judged_one, judged, kept}
+use Rattle.gap_orlib.specs.States.{Cut, at_hand, cut_byte, stated, state_of, with_last, behind_separator, after_byte}
 
 judged_push : (ts : List Token) (t : Token) → judged (ts ++ t ∷ []) ≡ judged_one (judged ts) t
 unfolding judged

@@ -1,6 +1,5 @@
 -- What the fields of a reader say. Own to portgap.
 use Rattle.std.specs.Prelude.{ℕ, ◌+◌, ◌≤◌, ◌≡◌, List, length, Option, Some, None}
-use Rattle.gap_orlib.specs.declared.fault.PortFault.{PortFault}
 use Rattle.gap_orlib.specs.declared.fault.PortStop.{PortStop}
 use Rattle.gap_orlib.specs.declared.fault.PortStop.TheVariants.{Fault, OutOfMemory}
 use Rattle.gap_orlib.specs.declared.reader.Reader.TheInside.{Inside}

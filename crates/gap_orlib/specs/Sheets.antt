@@ -106,7 +106,8 @@ pair_told s i j r =
     else Ok (record {
       market = counted r.exact (with_rho s.market i j r.value);
       seen = slice_set s.seen (slot s.market.assets i j) true;
-      next = First })
+      next = First;
+    })
 
 -- what the correlation of an asset with itself says. Own to portgap.
 unfoldable pub diagonal_told : Sheet → Rounded → Result Sheet PortKind

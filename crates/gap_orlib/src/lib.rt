@@ -11,3 +11,6 @@ mod whole;
 
 pub use fault::{PortFault, PortKind, PortStop};
 pub use reader::Reader;
+
+#[cfg(test)]
+mod tests;

@@ -1,7 +1,9 @@
 //! The reader of port files, in pieces of any size.
 
-ghost use Rattle.std.specs.Prelude.{◌≡◌, ◌≢◌, ◌↔◌, ℕ, ◌+◌, ◌++◌, [], List, length, Some};
+ghost use Rattle.std.specs.Prelude.{◌≡◌, ◌≢◌, ◌↔◌, ℕ, ◌+◌, ◌++◌, [], List, length, Some, IfOk, IsOk, ◌⊎◌};
 ghost use Rattle.gap_orlib.specs.Ports.{port, finished};
+ghost use Rattle.gap_base.specs.Markets.{MarketValue};
+ghost use Rattle.gap_orlib.specs.Fields.{IsMarketOf};
 ghost use Rattle.gap_orlib.specs.ReaderViews.{IsOn};
 ghost use Rattle.gap_orlib.specs.States.{HasRead, answer_of, IsStopped, Tells, no_memory, with_last};
 
@@ -68,7 +70,13 @@ impl Reader {
     {
         match self.stop {
             Some(stop) => Err(stop),
-            None => match read_piece(self.alloc, &mut self.begin, &mut self.tail, &mut self.table, piece) {
+            None => match read_piece(
+                self.alloc,
+                &mut self.begin,
+                &mut self.tail,
+                &mut self.table,
+                piece,
+            ) {
                 Ok(()) => Ok(()),
                 Err(stop) => {
                     self.stop = Some(stop);
@@ -84,6 +92,8 @@ impl Reader {
     /// `Fault` with the first fault of the bytes; `OutOfMemory` exactly where a feed answered it.
     pub fn finish(self) -> Result<Market, PortStop>
         ensures market { (fed : List ℕ) → HasRead self fed → Tells result (port fed) }
+        ensures words { (fed : List ℕ) → HasRead self fed → IfOk result (IsMarketOf fed) }
+        ensures accepts { (fed : List ℕ) (m : MarketValue) → HasRead self fed → IsMarketOf fed m → IsOk result ⊎ (result ≡ Err PortStop.OutOfMemory) }
         ensures memory { (result ≡ Err PortStop.OutOfMemory) ↔ (self ≡ no_memory) }
     {
         let Reader {

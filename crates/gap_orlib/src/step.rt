@@ -65,7 +65,13 @@ fn take(alloc: Global, begin: u64, tail: &[u8], table: &mut Option<Table>) -> Re
 }
 
 /// Reads one byte more.
-fn next(alloc: Global, begin: &mut u64, tail: &mut Vec<u8>, table: &mut Option<Table>, b: u8) -> Result<(), PortStop>
+fn next(
+    alloc: Global,
+    begin: &mut u64,
+    tail: &mut Vec<u8>,
+    table: &mut Option<Table>,
+    b: u8,
+) -> Result<(), PortStop>
     requires { IsOn begin.old tail.old.items table.old }
     ensures told { NextIs result (record { begin = begin.new; tail = tail.new.items; sheet = table.new }) (going_after (record { begin = begin.old; tail = tail.old.items; sheet = table.old }) b) }
     ensures on { IfOk result (λ _. IsOn begin.new tail.new.items table.new) }
@@ -93,7 +99,13 @@ fn next(alloc: Global, begin: &mut u64, tail: &mut Vec<u8>, table: &mut Option<T
 }
 
 /// Reads the bytes of a piece.
-pub fn read_piece(alloc: Global, begin: &mut u64, tail: &mut Vec<u8>, table: &mut Option<Table>, piece: &[u8]) -> Result<(), PortStop>
+pub fn read_piece(
+    alloc: Global,
+    begin: &mut u64,
+    tail: &mut Vec<u8>,
+    table: &mut Option<Table>,
+    piece: &[u8],
+) -> Result<(), PortStop>
     requires { IsOn begin.old tail.old.items table.old }
     ensures told { NextIs result (record { begin = begin.new; tail = tail.new.items; sheet = table.new }) (over (going (record { begin = begin.old; tail = tail.old.items; sheet = table.old })) piece.now) }
     ensures on { IfOk result (λ _. IsOn begin.new tail.new.items table.new) }

@@ -13,7 +13,7 @@ ghost use Rattle.gap_orlib.specs.declared.wanted.Wanted.TheVariants.{Mean};
 use crate::fault::{PortFault, PortKind, PortStop};
 use crate::wanted::Wanted;
 use crate::whole::whole_in;
-use gap_base::{read_numeral, Market, Rounded};
+use gap_base::{Market, Rounded, read_numeral};
 use std::alloc::Global;
 use std::marker::Model;
 
@@ -76,7 +76,11 @@ fn behind_deviation(n: u16, k: u16) -> Wanted
     ensures value { result ≡ behind_deviation n k }
     ensures wanted { AreAssets n result }
 {
-    if k + 1 < n { Wanted::Mean(k + 1) } else { Wanted::First }
+    if k + 1 < n {
+        Wanted::Mean(k + 1)
+    } else {
+        Wanted::First
+    }
 }
 
 /// The place of a pair among all pairs, row by row, whichever way round it is named.

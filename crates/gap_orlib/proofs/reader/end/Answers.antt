@@ -1,4 +1,4 @@
-use Rattle.std.proofs.Common.{◌≡◌, ℕ, ◌+◌, ◌<◌, ◌≤◌, length, arith, subst, Err}
+use Rattle.std.proofs.Common.{◌<◌, length, arith}
 use Rattle.gap_orlib.proofs.Ends.{end_short, end_count}
 use Rattle.gap_orlib.proofs.reader.end.Goals as goal
 
