@@ -1,0 +1,4 @@
+pub mod NumeralLaws
+pub mod PlainLaws
+pub mod ReaderLaws
+pub mod TokenLaws

@@ -1,0 +1,4 @@
+pub mod Numerals
+pub mod Plain
+pub mod Reading
+pub mod Tokens
