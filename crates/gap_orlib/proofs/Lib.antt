@@ -1,4 +1,5 @@
 pub mod NumeralLaws
 pub mod PlainLaws
+pub mod PlainRelation
 pub mod ReaderLaws
 pub mod TokenLaws

@@ -28,7 +28,7 @@ pub all_below-more : (n : ℕ) (p : ℕ → Bool) → all_below n p ≡ true →
 unfolding all_below
 all_below-more n p h e = rw (add-one, h, e) refl
 
-and_true : (a b : Bool) → (a && b) ≡ true → (a ≡ true) × (b ≡ true)
+pub and_true : (a b : Bool) → (a && b) ≡ true → (a ≡ true) × (b ≡ true)
 and_true true b h = (refl, h)
 and_true false b h = absurd cc
 
@@ -55,7 +55,7 @@ unfolding all_below
 all_below-all zero p h = refl
 all_below-all (suc n) p h = rw (all_below-all n p (λ k l. h k (omega arith)), h n (omega arith)) refl
 
-or_right : (a b : Bool) → b ≡ true → (a || b) ≡ true
+pub or_right : (a b : Bool) → b ≡ true → (a || b) ≡ true
 or_right true b h = refl
 or_right false b h = h
 
@@ -246,29 +246,29 @@ abbrev fields : ℕ → List ℤ → List ℕ → List ℤ → ℕ → MarketVal
 fields n m d c g = record { assets = n; means = m; deviations = d; correlations = c; rounded = g }
 
 -- two markets that agree in each part
-same_market : (a b : MarketValue) → a.assets ≡ b.assets → a.means ≡ b.means → a.deviations ≡ b.deviations → a.correlations ≡ b.correlations → a.rounded ≡ b.rounded → a ≡ b
+pub same_market : (a b : MarketValue) → a.assets ≡ b.assets → a.means ≡ b.means → a.deviations ≡ b.deviations → a.correlations ≡ b.correlations → a.rounded ≡ b.rounded → a ≡ b
 same_market a b p q r s t = made a.assets b.assets a.means b.means a.deviations b.deviations a.correlations b.correlations a.rounded b.rounded p q r s t
   where
     made : (n k : ℕ) (m l : List ℤ) (d e : List ℕ) (c f : List ℤ) (g h : ℕ) → n ≡ k → m ≡ l → d ≡ e → c ≡ f → g ≡ h → fields n m d c g ≡ fields k l e f h
     made n k m l d e c f g h p q r s t = rw (p, q, r, s, t) refl
 
-told_rho-same : (ts : List (List ℕ)) (n a b : ℕ) → a ≡ b → told_rho ts n a b ≡ pos 0
+pub told_rho-same : (ts : List (List ℕ)) (n a b : ℕ) → a ≡ b → told_rho ts n a b ≡ pos 0
 told_rho-same ts n a b e = let h : (a == b) ≡ true = grind (arith, nat_tests) in rw h refl
 
-told_rho-less : (ts : List (List ℕ)) (n a b : ℕ) → a < b → told_rho ts n a b ≡ told_pair ts n a b
+pub told_rho-less : (ts : List (List ℕ)) (n a b : ℕ) → a < b → told_rho ts n a b ≡ told_pair ts n a b
 told_rho-less ts n a b l =
     let h : (a == b) ≡ false = grind (arith, nat_tests) in
     let g : nat_lt a b ≡ true = grind (arith, nat_tests) in
     rw (h, g) refl
 
-told_rho-greater : (ts : List (List ℕ)) (n a b : ℕ) → b < a → told_rho ts n a b ≡ told_pair ts n b a
+pub told_rho-greater : (ts : List (List ℕ)) (n a b : ℕ) → b < a → told_rho ts n a b ≡ told_pair ts n b a
 told_rho-greater ts n a b l =
     let h : (a == b) ≡ false = grind (arith, nat_tests) in
     let g : nat_lt a b ≡ false = grind (arith, nat_tests) in
     rw (h, g) refl
 
 -- each entry is what the tokens say of its two assets
-entry_is : (ts : List (List ℕ)) (n : ℕ) (now : MarketValue) → IsMarket now → now.assets ≡ n → ((a b : ℕ) → a < b → b < n → rho_of now a b ≡ told_pair ts n a b) → ((a : ℕ) → a < n → slice_index_or now.correlations (a * n + a) (pos 0) ≡ pos 0) → (a b : ℕ) → a < n → b < n → slice_index_or now.correlations (a * n + b) (pos 0) ≡ told_rho ts n a b
+pub entry_is : (ts : List (List ℕ)) (n : ℕ) (now : MarketValue) → IsMarket now → now.assets ≡ n → ((a b : ℕ) → a < b → b < n → rho_of now a b ≡ told_pair ts n a b) → ((a : ℕ) → a < n → slice_index_or now.correlations (a * n + a) (pos 0) ≡ pos 0) → (a b : ℕ) → a < n → b < n → slice_index_or now.correlations (a * n + b) (pos 0) ≡ told_rho ts n a b
 entry_is ts n now known e pairs unread a b p q =
     ⊎_elim
     (λ (same : a ≡ b). rw (← same) (unread a p) ∙ sym (told_rho-same ts n a b same))
@@ -283,6 +283,18 @@ entry_is ts n now known e pairs unread a b p q =
 
     read : (a ≢ b) → slice_index_or now.correlations (a * n + b) (pos 0) ≡ rho_of now a b
     read ne = rw (← e) (sym (rho_of-two now a b ne))
+
+positive : (n k : ℕ) → k < n * n → 0 < n
+positive zero k p = absurd (omega arith)
+positive (suc n) k p = omega arith
+
+-- an entry by its place
+pub entry_at : (ts : List (List ℕ)) (n : ℕ) (l : List ℤ) (k : ℕ) → k < n * n → ((a b : ℕ) → a < n → b < n → slice_index_or l (a * n + b) (pos 0) ≡ told_rho ts n a b) → slice_index_or l k (pos 0) ≡ told_rho ts n (k / n) (k % n)
+entry_at ts n l k p h =
+    let some : 0 < n = positive n k p in
+    let row : k / n < n = (div-lt_iff_lt-mul some).1 p in
+    let column : k % n < n = omega arith in
+    ap (λ (place : ℕ). slice_index_or l place (pos 0)) (sym (div-add-mod' k n)) ∙ h (k / n) (k % n) row column
 
 -- what stands in the new market where nobody reads
 fresh_unread : (n a : ℕ) → a < n → slice_index_or (replicate (n * n) (pos 0)) (a * n + a) (pos 0) ≡ pos 0
@@ -317,17 +329,6 @@ told_market_is ts n mid now has paired =
         let all = length-map-range_with_len (told_deviation ts) 0 n in
         ext_get_or {A = ℕ} 0 (map (told_deviation ts) (range_with_len 0 n)) mid.deviations (all ∙ sym (has.deviations_length ∙ length-replicate {A = ℕ} n 0))
         (λ k l. let p : k < n = rw all at l in get_or-map-range_with_len {X = ℕ} (told_deviation ts) 0 n k k 0 p (omega arith) ∙ sym (has.deviations k p))
-
-    positive : (n k : ℕ) → k < n * n → 0 < n
-    positive zero k p = absurd (omega arith)
-    positive (suc n) k p = omega arith
-
-    entry_at : (ts : List (List ℕ)) (n : ℕ) (l : List ℤ) (k : ℕ) → k < n * n → ((a b : ℕ) → a < n → b < n → slice_index_or l (a * n + b) (pos 0) ≡ told_rho ts n a b) → slice_index_or l k (pos 0) ≡ told_rho ts n (k / n) (k % n)
-    entry_at ts n l k p h =
-        let some : 0 < n = positive n k p in
-        let row : k / n < n = (div-lt_iff_lt-mul some).1 p in
-        let column : k % n < n = omega arith in
-        ap (λ (place : ℕ). slice_index_or l place (pos 0)) (sym (div-add-mod' k n)) ∙ h (k / n) (k % n) row column
 
     correlations_are : (ts : List (List ℕ)) (n : ℕ) (l : List ℤ) → length l ≡ n * n → ((a b : ℕ) → a < n → b < n → slice_index_or l (a * n + b) (pos 0) ≡ told_rho ts n a b) → map (λ place. told_rho ts n (place / n) (place % n)) (range_with_len 0 (n * n)) ≡ l
     correlations_are ts n l e h =
