@@ -1,1 +1,9 @@
+pub mod Ring
+pub mod SumLaws
+pub mod Counts
+pub mod Machine
+pub mod Lists
+pub mod ListLaws
 pub mod MarketLaws
+pub mod NumeralLaws
+pub mod NumeralParts

@@ -1,1 +1,5 @@
+pub mod Sums
+pub mod Lots
 pub mod Markets
+pub mod Numerals
+pub mod NumeralViews

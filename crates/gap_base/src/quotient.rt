@@ -2,7 +2,7 @@
 
 ghost use Rattle.std.specs.Prelude.{ℤ, pos, ◌*ℤ◌, ◌≤ℤ◌};
 
-/// The least whole number `c` with `64c >= v`: a bound in millionths of 64ths, brought up to whole ones. Takes no
+/// The least whole number `c` with `64c >= v`: the 64th part of `v`, rounded up. Takes no
 /// memory; the cost is that of one quotient.
 pub fn ceil_div64(v: i128) -> i128
     ensures reached { v ≤ℤ (pos 64 *ℤ result) }

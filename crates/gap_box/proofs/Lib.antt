@@ -1,0 +1,5 @@
+pub mod CellLaws
+pub mod CountLaws
+pub mod PartLaws
+pub mod SingleLaws
+pub mod SplitLaws

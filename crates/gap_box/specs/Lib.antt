@@ -1,0 +1,4 @@
+pub mod Cells
+pub mod Parts
+pub mod Splits
+pub mod Only

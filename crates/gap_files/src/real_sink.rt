@@ -1,0 +1,49 @@
+//! Standard output, through std.
+ghost use Rattle.std.specs.Prelude.{◌≡◌, None};
+
+use crate::{Sink, Trouble};
+use std::io;
+use std::io::Print;
+
+/// Standard output, reached through the runtime of `main`. What it takes isn't told: that it passes the bytes on is
+/// not proved.
+#[derive(Drop)]
+pub struct RealSink<'a, R: Print> {
+    rt: &'a R,
+    faults: u64,
+}
+
+impl<'a, R: Print> RealSink<'a, R> {
+    /// The standard output that `rt` reaches, with its count at 0.
+    pub fn new(rt: &'a R) -> RealSink<'a, R>
+        ensures { ⟦<RealSink<'a, R> as Sink>⟧.faults result ≡ 0 }
+    {
+        RealSink { rt, faults: 0 }
+    }
+
+    // Writes until all is taken, and answers whether it was: no if a write fails or takes nothing.
+    fn write_all(&self, bytes: &[u8]) -> bool {
+        let mut done = 0;
+        while done < bytes.len() {
+            match self.rt.write_some(&bytes[done..]) {
+                Ok(0) | Err(_) => return false,
+                Ok(more) => done += more,
+            }
+        }
+        true
+    }
+}
+
+impl<R: Print> Sink for RealSink<'_, R> {
+    ghost written = { λ _. None };
+
+    ghost faults = { λ sink. sink.faults };
+
+    fn write(&mut self, bytes: &[u8]) -> Result<(), Trouble> {
+        if self.write_all(bytes) {
+            return Ok(());
+        }
+        self.faults = self.faults.saturating_add(1);
+        Err(Trouble::Failed)
+    }
+}

@@ -1,0 +1,6 @@
+pub mod Instances
+pub mod Limits
+pub mod Neighbours
+pub mod Objective
+pub mod Spreads
+pub mod Tables

@@ -1,0 +1,12 @@
+//! A market with the limits of a job: the table of covariances, the limits that a list of lots has to meet, and the
+//! definitions of risk, return, objective and neighbours.
+#![tactic(auto)]
+
+mod covariances;
+mod instance;
+mod keeps;
+#[cfg(test)]
+mod tests;
+
+pub use instance::Instance;
+pub use keeps::Broken;
