@@ -137,3 +137,226 @@ pub fn read_job(alloc: Global, bytes: &[u8], n: u16) -> Result<Job, JobStop>
         Err(fault) => Err(JobStop::Fault(fault)),
     }
 }
+
+#[cfg(test)]
+mod tests {
+    use super::*;
+    use gap_base::Weight;
+    use std::test::Fail;
+
+    // What is wrong with a job of two assets.
+    fn fault(alloc: Global, text: &str) -> Option<JobFault> {
+        match read_job(alloc, text.as_bytes(), 2) {
+            Err(JobStop::Fault(fault)) => Some(fault),
+            _ => None,
+        }
+    }
+
+    #[test]
+    fn takes_defaults(rt: HostRuntime) -> Result<(), Fail> {
+        let job = read_job(rt.alloc(), br#"{"lots":10,"held":2,"weights":[[1,2]]}"#, 2)?;
+        assert_eq!(rt; job.lots, 10);
+        assert_eq!(rt; job.held, 2);
+        assert_eq!(rt; job.least.len(), 2);
+        assert_eq!(rt; job.least.get(1), 1);
+        assert_eq!(rt; job.greatest.len(), 2);
+        assert_eq!(rt; job.greatest.get(0), 10);
+        assert_eq!(rt; job.present.len(), 2);
+        assert_eq!(rt; job.present.get(0), 0);
+        assert_eq!(rt; job.turnover, None);
+        assert_eq!(rt; job.weights.len(), 1);
+        assert_eq!(rt; job.weights.get(0), Weight { p: 1, q: 2 });
+        assert_eq!(rt; job.nodes, 1_000);
+        assert_eq!(rt; job.workers, 1);
+        Ok(())
+    }
+
+    #[test]
+    fn takes_what_is_said(rt: HostRuntime) -> Result<(), Fail> {
+        let text = br#"{"workers":16,"nodes":0,"weights":[[0,100],[7,7]],"turnover":3000000,
+            "present":[[2,10000]],"limits":[[2,9,3]],"greatest":8,"least":2,"held":1,"lots":9,"lots":10}"#;
+        let job = read_job(rt.alloc(), text, 2)?;
+        assert_eq!(rt; job.lots, 10);
+        assert_eq!(rt; job.held, 1);
+        assert_eq!(rt; job.least.len(), 2);
+        assert_eq!(rt; job.least.get(0), 2);
+        assert_eq!(rt; job.least.get(1), 9);
+        assert_eq!(rt; job.greatest.len(), 2);
+        assert_eq!(rt; job.greatest.get(0), 8);
+        assert_eq!(rt; job.greatest.get(1), 3);
+        assert_eq!(rt; job.present.len(), 2);
+        assert_eq!(rt; job.present.get(1), 10_000);
+        assert_eq!(rt; job.turnover, Some(3_000_000));
+        assert_eq!(rt; job.weights.len(), 2);
+        assert_eq!(rt; job.weights.get(1), Weight { p: 7, q: 7 });
+        assert_eq!(rt; job.nodes, 0);
+        assert_eq!(rt; job.workers, 16);
+        Ok(())
+    }
+
+    #[test]
+    fn judges_the_text_first(rt: HostRuntime) {
+        let alloc = rt.alloc();
+        assert_eq!(rt; fault(alloc, "[]"), Some(JobFault::NotObject));
+        assert_eq!(rt; fault(alloc, "{"), Some(JobFault::NotJson));
+        assert_eq!(rt; fault(alloc, ""), Some(JobFault::NotJson));
+        assert_eq!(rt;
+            fault(alloc, r#"{"lots":10,"zz":1}"#),
+            Some(JobFault::Unknown(1))
+        );
+        assert_eq!(rt;
+            fault(alloc, r#"{"lots":"x","Lots":1}"#),
+            Some(JobFault::Unknown(0))
+        );
+        let bytes = read_job(alloc, b"{\"\xFF\":1}", 2);
+        assert!(rt;
+            matches!(bytes, Err(JobStop::Fault(JobFault::NotJson))),
+            "no UTF-8"
+        );
+    }
+
+    #[test]
+    fn judges_numbers(rt: HostRuntime) {
+        let alloc = rt.alloc();
+        assert_eq!(rt;
+            fault(alloc, r#"{"held":2}"#),
+            Some(JobFault::Kind(Key::Lots))
+        );
+        assert_eq!(rt;
+            fault(alloc, r#"{"lots":100.0}"#),
+            Some(JobFault::Kind(Key::Lots))
+        );
+        assert_eq!(rt;
+            fault(alloc, r#"{"lots":0}"#),
+            Some(JobFault::Range(Key::Lots))
+        );
+        assert_eq!(rt;
+            fault(alloc, r#"{"lots":10001}"#),
+            Some(JobFault::Range(Key::Lots))
+        );
+        assert_eq!(rt;
+            fault(alloc, r#"{"lots":10,"held":null}"#),
+            Some(JobFault::Kind(Key::Held))
+        );
+        assert_eq!(rt;
+            fault(alloc, r#"{"lots":10,"held":3}"#),
+            Some(JobFault::Range(Key::Held))
+        );
+        assert_eq!(rt;
+            fault(alloc, r#"{"lots":10,"held":2,"least":[]}"#),
+            Some(JobFault::Kind(Key::Least))
+        );
+        assert_eq!(rt;
+            fault(alloc, r#"{"lots":10,"held":2,"least":11}"#),
+            Some(JobFault::Range(Key::Least))
+        );
+        assert_eq!(rt;
+            fault(alloc, r#"{"lots":10,"held":2,"greatest":-1}"#),
+            Some(JobFault::Kind(Key::Greatest))
+        );
+        assert_eq!(rt;
+            fault(alloc, r#"{"lots":10,"held":2,"greatest":0}"#),
+            Some(JobFault::Range(Key::Greatest))
+        );
+        assert_eq!(rt;
+            fault(alloc, r#"{"lots":10,"held":2,"turnover":1e2}"#),
+            Some(JobFault::Kind(Key::Turnover))
+        );
+        assert_eq!(rt;
+            fault(alloc, r#"{"lots":10,"held":2,"turnover":3000001}"#),
+            Some(JobFault::Range(Key::Turnover))
+        );
+        assert_eq!(rt;
+            fault(
+                alloc,
+                r#"{"lots":10,"held":2,"weights":[[1,2]],"nodes":true}"#
+            ),
+            Some(JobFault::Kind(Key::Nodes))
+        );
+        assert_eq!(rt;
+            fault(
+                alloc,
+                r#"{"lots":10,"held":2,"weights":[[1,2]],"nodes":100001}"#
+            ),
+            Some(JobFault::Range(Key::Nodes))
+        );
+        assert_eq!(rt;
+            fault(
+                alloc,
+                r#"{"lots":10,"held":2,"weights":[[1,2]],"workers":{}}"#
+            ),
+            Some(JobFault::Kind(Key::Workers))
+        );
+        assert_eq!(rt;
+            fault(
+                alloc,
+                r#"{"lots":10,"held":2,"weights":[[1,2]],"workers":17}"#
+            ),
+            Some(JobFault::Range(Key::Workers))
+        );
+    }
+
+    #[test]
+    fn judges_lists(rt: HostRuntime) {
+        let alloc = rt.alloc();
+        assert_eq!(rt;
+            fault(alloc, r#"{"lots":10,"held":2,"limits":1}"#),
+            Some(JobFault::Kind(Key::Limits))
+        );
+        assert_eq!(rt;
+            fault(alloc, r#"{"lots":10,"held":2,"limits":[[1,1]]}"#),
+            Some(JobFault::Kind(Key::Limits))
+        );
+        assert_eq!(rt;
+            fault(
+                alloc,
+                r#"{"lots":10,"held":2,"limits":[[3,1,1]],"weights":[[1,1]]}"#
+            ),
+            Some(JobFault::Asset(Key::Limits))
+        );
+        assert_eq!(rt;
+            fault(alloc, r#"{"lots":10,"held":2,"limits":[[1,1,1],[1,1,1]]}"#),
+            Some(JobFault::Asset(Key::Limits))
+        );
+        assert_eq!(rt;
+            fault(alloc, r#"{"lots":10,"held":2,"limits":[[1,1,11]]}"#),
+            Some(JobFault::Range(Key::Limits))
+        );
+        assert_eq!(rt;
+            fault(alloc, r#"{"lots":10,"held":2,"present":[[1,1,1]]}"#),
+            Some(JobFault::Kind(Key::Present))
+        );
+        assert_eq!(rt;
+            fault(alloc, r#"{"lots":10,"held":2,"present":[[0,1]]}"#),
+            Some(JobFault::Asset(Key::Present))
+        );
+        assert_eq!(rt;
+            fault(alloc, r#"{"lots":10,"held":2,"present":[[2,1],[2,1]]}"#),
+            Some(JobFault::Asset(Key::Present))
+        );
+        assert_eq!(rt;
+            fault(alloc, r#"{"lots":10,"held":2,"present":[[2,10001]]}"#),
+            Some(JobFault::Range(Key::Present))
+        );
+        assert_eq!(rt;
+            fault(alloc, r#"{"lots":10,"held":2}"#),
+            Some(JobFault::Kind(Key::Weights))
+        );
+        assert_eq!(rt;
+            fault(alloc, r#"{"lots":10,"held":2,"weights":[]}"#),
+            Some(JobFault::Range(Key::Weights))
+        );
+        assert_eq!(rt;
+            fault(alloc, r#"{"lots":10,"held":2,"weights":[[1,2],[1]]}"#),
+            Some(JobFault::Kind(Key::Weights))
+        );
+        assert_eq!(rt;
+            fault(alloc, r#"{"lots":10,"held":2,"weights":[[1,0]]}"#),
+            Some(JobFault::Range(Key::Weights))
+        );
+        assert_eq!(rt;
+            fault(alloc, r#"{"lots":10,"held":2,"weights":[[3,2]]}"#),
+            Some(JobFault::Range(Key::Weights))
+        );
+    }
+}
