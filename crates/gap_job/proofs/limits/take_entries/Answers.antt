@@ -1,0 +1,23 @@
+use Rattle.std.proofs.Common.{rules, arith, refl, Err, Ok, ◌∙◌, sym}
+use Rattle.gap_job.specs.Entries.{with_limit}
+use Rattle.gap_job.proofs.Walk.{goes_on, ends}
+use Rattle.gap_job.proofs.limits.take_entries.Goals as goal
+
+pub returns-in-Err : goal.returns-in-Err
+returns-in-Err c =
+    let known = c.loop-entry.invariant in
+    ends (with_limit c.args.n c.args.lots) (Ok c.args.limits) c.args.entries.now c.loop-entry.entry-index c.entry-item.result c.loop-entry.limits c.in-Err.fault
+    (λ d. refl) c.loop-entry-test.true c.entry-item.is known.so_far (rw known.named at c.in-Err.ensures.step)
+
+pub loop-entry-preserved : goal.loop-entry-preserved
+loop-entry-preserved c =
+    let known = c.loop-entry.invariant in
+    let named = c.take_entry.ensures.named in
+    let sizes = c.take_entry.ensures.sizes in
+    record {
+      so_far = goes_on (with_limit c.args.n c.args.lots) (Ok c.args.limits) c.args.entries.now c.loop-entry.entry-index c.entry-item.result c.loop-entry.limits c.take_entry.new.limits
+          c.loop-entry-test.true c.entry-item.is known.so_far (rw known.named at c.in-Ok.ensures.step);
+      least = sizes.0 ∙ named ∙ known.named;
+      greatest = sizes.1 ∙ named ∙ known.named;
+      named = named ∙ known.named;
+    }
