@@ -1,0 +1,5 @@
+pub mod FactorLaws
+pub mod RootLaws
+pub mod ColumnLaws
+pub mod LeastLaws
+pub mod PlainLaws

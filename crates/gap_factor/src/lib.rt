@@ -1,0 +1,8 @@
+//! The shift of an instance: the rounded factor of its covariances with the least diagonal for it, or the least
+//! diagonal alone where that is smaller.
+#![tactic(auto)]
+
+mod columns;
+mod diagonal;
+
+mod plain;
