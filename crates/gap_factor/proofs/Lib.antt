@@ -3,3 +3,4 @@ pub mod RootLaws
 pub mod ColumnLaws
 pub mod LeastLaws
 pub mod PlainLaws
+pub mod ChoiceLaws

@@ -2,7 +2,9 @@
 //! diagonal alone where that is smaller.
 #![tactic(auto)]
 
+mod choice;
 mod columns;
 mod diagonal;
-
 mod plain;
+
+pub use choice::factor;
