@@ -8,3 +8,6 @@ mod diagonal;
 mod plain;
 
 pub use choice::factor;
+
+#[cfg(test)]
+mod tests;
