@@ -1,11 +1,10 @@
 -- How the rounded factor and none compare.
-use Rattle.std.proofs.Common.{◌≡◌, ℕ, ◌+◌, ◌<◌, ◌≤◌, List, length, ℤ, pos, ◌≤ℤ◌, ◌<ℤ◌, ◌⊎◌, inl, inr, refl, sym, ap, ◌∙◌, arith}
+use Rattle.std.proofs.Common.{◌≡◌, ℕ, ◌<◌, List, ℤ, pos, ◌≤ℤ◌, ◌<ℤ◌, sym, ap, ◌∙◌, arith}
 use Rattle.std.proofs.lemmas.Int.{ints}
-use Rattle.std.proofs.lemmas.Bool.{cases_eq}
 use Rattle.gap_base.specs.Sums.{sum_below, lower}
 use Rattle.gap_base.proofs.SumLaws.{sum_same}
-use Rattle.gap_psd.specs.Shifts.{ShiftValue, r_of, d_of, total_of}
-use Rattle.gap_psd.specs.Factors.{no_factor, IsLeastAt, AreLeast, AreSmall, IsRoundedFactor, IsAtMostRounded, IsBelowRounded, IsChosen}
+use Rattle.gap_psd.specs.Shifts.{ShiftValue, r_of}
+use Rattle.gap_psd.specs.Factors.{no_factor, IsLeastAt, AreLeast, IsRoundedFactor, IsAtMostRounded, IsBelowRounded}
 use Rattle.gap_factor.specs.Plain.{plain_of}
 use Rattle.gap_factor.specs.Diagonals.{IsTooMuch}
 use Rattle.gap_factor.proofs.FactorLaws.{factor_unique}

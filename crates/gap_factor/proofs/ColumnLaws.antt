@@ -1,15 +1,15 @@
 -- How a column of the factor is written entry by entry.
-use Rattle.std.proofs.Common.{◌≡◌, ◌≢◌, ℕ, zero, suc, ◌+◌, ◌-◌, ◌*◌, ◌<◌, ◌≤◌, ◌==◌, Bool, true, false, cond, IsTrue, ◌↔◌, nat_lt, nat_le, if◌then◌else◌, List, length, slice_set, set, ℤ, pos, negsuc, ◌+ℤ◌, ◌-ℤ◌, ◌*ℤ◌, ◌≤ℤ◌, ◌<ℤ◌, int_lt, int_div, unsigned_abs, ◌&&◌, ◌⊎◌, inl, inr, refl, sym, ap, ◌∙◌, arith, mul-le-mul_right, length-set, get_or-set_same, get_or-set_other}
+use Rattle.std.proofs.Common.{◌≡◌, ◌≢◌, ℕ, ◌+◌, ◌*◌, ◌<◌, ◌≤◌, ◌==◌, Bool, true, false, cond, IsTrue, ◌↔◌, nat_lt, if◌then◌else◌, length, slice_set, ℤ, pos, ◌≤ℤ◌, ◌<ℤ◌, int_lt, unsigned_abs, ◌&&◌, ◌⊎◌, inl, inr, refl, sym, ap, ◌∙◌, arith, mul-le-mul_right, length-set, get_or-set_same, get_or-set_other}
 use Rattle.std.proofs.lemmas.Int.{ints}
 use Rattle.std.proofs.lemmas.Bool.{cases_eq, cases_lt}
 use Rattle.std.proofs.lemmas.Bool.Decides.{nat_tests}
-use Rattle.gap_base.specs.Sums.{count_if, lower, entry, at}
+use Rattle.gap_base.specs.Sums.{count_if}
 use Rattle.gap_base.proofs.Counts.{count_nowhere, count_split}
 use Rattle.gap_psd.specs.Shifts.{ShiftValue, r_of, with_r}
-use Rattle.gap_psd.specs.Factors.{owed, wanted, pivot_root, whole_root, too_large, takes_column, IsRoundedColumn}
+use Rattle.gap_psd.specs.Factors.{owed, wanted, too_large, takes_column, IsRoundedColumn}
 use Rattle.gap_psd.proofs.ShiftLaws.{lower_above, lower_below}
 use Rattle.gap_factor.specs.Columns.{SameBeside, IsWritten, AreSmallBelow, AreRounded}
-use Rattle.gap_factor.proofs.FactorLaws.{owed_same, wanted_same, takes_same, choice_same, column_kept, wanted_above}
+use Rattle.gap_factor.proofs.FactorLaws.{owed_same, wanted_same, choice_same, column_kept, wanted_above}
 
 -- ---- places of a table of n columns
 pub place_below : (n i j : ℕ) → i < n → j < n → i * n + j < n * n
@@ -52,14 +52,16 @@ beside_trans s t u j h g = record {
   assets = g.assets ∙ h.assets;
   diagonal = g.diagonal ∙ h.diagonal;
   size = g.size ∙ h.size;
-  columns = λ a b p q n. let e = h.assets in g.columns a b (omega arith) (omega arith) n ∙ h.columns a b p q n }
+  columns = λ a b p q n. let e = h.assets in g.columns a b (omega arith) (omega arith) n ∙ h.columns a b p q n;
+}
 
 beside_set : (s t : ShiftValue) (j i : ℕ) (v : ℤ) → j < s.assets → SameBeside s t j → SameBeside s (with_r t i j v) j
 beside_set s t j i v p h = record {
   assets = h.assets;
   diagonal = h.diagonal;
   size = length-set t.factor (i * t.assets + j) v ∙ h.size;
-  columns = λ a b x y n. let e = h.assets in r_set_other_column t i j a b v (omega arith) (omega arith) n ∙ h.columns a b x y n }
+  columns = λ a b x y n. let e = h.assets in r_set_other_column t i j a b v (omega arith) (omega arith) n ∙ h.columns a b x y n;
+}
 
 pub pivot_kept : (C : ℕ → ℕ → ℤ) (s t : ShiftValue) (j : ℕ) → j < s.assets → SameBeside s t j → owed C (r_of t) j j ≡ owed C (r_of s) j j
 pivot_kept C s t j p h = owed_same C (r_of t) (r_of s) j j (λ k l. h.columns j k p (omega arith) (λ e. omega arith)) (λ k l. h.columns j k p (omega arith) (λ e. omega arith))
@@ -75,7 +77,8 @@ written_by entries s t j i v q p size h e a l (inr m) = r_set_other_row t i j a 
 written_set : (entries : ℕ → ℤ) (s t : ShiftValue) (j i : ℕ) (v : ℤ) → j ≤ i → i < s.assets → length s.factor ≡ s.assets * s.assets → IsWritten entries s t j i → v ≡ entries i → IsWritten entries s (with_r t i j v) j (i + 1)
 written_set entries s t j i v q p size h e = let k = h.kept.assets in let z = h.kept.size in let m : length t.factor ≡ t.assets * t.assets = z ∙ size ∙ ap (λ (x : ℕ). x * x) (sym k) in record {
   kept = beside_set s t j i v (omega arith) h.kept;
-  written = λ a l. written_by entries s t j i v q (omega arith) m h.written e a l (cases_eq a i) }
+  written = λ a l. written_by entries s t j i v q (omega arith) m h.written e a l (cases_eq a i);
+}
 
 pub written_step : (entries : ℕ → ℤ) (s t u : ShiftValue) (j i : ℕ) (v : ℤ) → j ≤ i → i < s.assets → length s.factor ≡ s.assets * s.assets → IsWritten entries s t j i → v ≡ entries i → u ≡ with_r t i j v → IsWritten entries s u j (i + 1)
 written_step entries s t u j i v q p size h e w = rw w (written_set entries s t j i v q p size h e)
@@ -181,4 +184,5 @@ pub rounded_step : (C : ℕ → ℕ → ℤ) (s t u : ShiftValue) (j : ℕ) → 
 rounded_step C s t u j p h g c = let e = h.assets in let here : IsRoundedColumn s.assets C (r_of u) j = rw e at c in record {
   assets = g.assets ∙ h.assets;
   diagonal = g.diagonal ∙ h.diagonal;
-  columns = λ k l. columns_by C s.assets (r_of t) (r_of u) j p (λ a b x y n. g.columns a b (omega arith) (omega arith) n) h.columns here k l (cases_eq k j) }
+  columns = λ k l. columns_by C s.assets (r_of t) (r_of u) j p (λ a b x y n. g.columns a b (omega arith) (omega arith) n) h.columns here k l (cases_eq k j);
+}

@@ -1,14 +1,12 @@
 -- The laws of the rounded factor: a column reads only the columns before it, so the rounded factor is one.
-use Rattle.std.proofs.Common.{◌≡◌, ℕ, zero, suc, ◌+◌, ◌-◌, ◌*◌, ◌<◌, ◌≤◌, ◌==◌, Bool, true, false, cond, IsTrue, nat_lt, nat_le, if◌then◌else◌, ℤ, pos, negsuc, ◌+ℤ◌, ◌-ℤ◌, ◌*ℤ◌, neg_ℤ, ◌≤ℤ◌, ◌<ℤ◌, int_lt, int_div, unsigned_abs, ◌&&◌, ◌⊎◌, inl, inr, refl, sym, ap, ◌∙◌, arith, mul-le-mul}
-use Rattle.std.proofs.lemmas.Int.{ints}
-use Rattle.std.proofs.lemmas.Bool.{cases_eq, cases_lt}
+use Rattle.std.proofs.Common.{◌≡◌, ℕ, zero, suc, ◌+◌, ◌*◌, ◌<◌, ◌≤◌, ◌==◌, Bool, true, false, cond, nat_lt, nat_le, if◌then◌else◌, ℤ, pos, ◌-ℤ◌, ◌*ℤ◌, int_lt, int_div, unsigned_abs, ◌&&◌, ◌⊎◌, inl, inr, refl, sym, ap, ◌∙◌, arith, mul-le-mul}
+use Rattle.std.proofs.lemmas.Bool.{cases_lt}
 use Rattle.std.proofs.lemmas.Bool.Decides.{nat_tests}
-use Rattle.gap_base.specs.Sums.{sum_below, count_if, abs_z}
-use Rattle.gap_base.proofs.Ring.{linear, if_same, if_other}
+use Rattle.gap_base.specs.Sums.{count_if}
+use Rattle.gap_base.proofs.Ring.{if_same, if_other}
 use Rattle.gap_base.proofs.SumLaws.{sum_same}
 use Rattle.gap_base.proofs.Counts.{count_same, count_all}
-use Rattle.gap_psd.specs.Forms.{others, gram, remainder}
-use Rattle.gap_psd.specs.Factors.{whole_root, owed, pivot_root, wanted, too_large, takes_column, IsRoundedColumn, IsRoundedFactor, IsEnough, IsLeastAt, AreLeast}
+use Rattle.gap_psd.specs.Factors.{whole_root, owed, pivot_root, wanted, too_large, takes_column, IsRoundedColumn, IsRoundedFactor}
 
 -- a prefix of places meets a test, the rest does not
 count_prefix : (n r : ℕ) (p : ℕ → Bool) → r ≤ n → ((k : ℕ) → k < r → p k ≡ true) → ((k : ℕ) → r ≤ k → p k ≡ false) → count_if n p ≡ r
@@ -16,9 +14,9 @@ unfolding count_if
 count_prefix zero r p h t f = omega arith
 count_prefix (suc n) r p h t f = prefix_step n r p h t f (λ l. count_prefix n r p l t f) (cases_lt n r)
   where
-  prefix_step : (n r : ℕ) (p : ℕ → Bool) → r ≤ suc n → ((k : ℕ) → k < r → p k ≡ true) → ((k : ℕ) → r ≤ k → p k ≡ false) → (r ≤ n → count_if n p ≡ r) → (n < r) ⊎ (r ≤ n) → count_if n p + cond (p n) 1 0 ≡ r
-  prefix_step n r p h t f go (inl l) = let e : r ≡ suc n = omega arith in let a = count_all n p (λ k m. t k (omega arith)) in rw (t n l) (omega arith)
-  prefix_step n r p h t f go (inr l) = let a = go l in rw (f n l) (omega arith)
+    prefix_step : (n r : ℕ) (p : ℕ → Bool) → r ≤ suc n → ((k : ℕ) → k < r → p k ≡ true) → ((k : ℕ) → r ≤ k → p k ≡ false) → (r ≤ n → count_if n p ≡ r) → (n < r) ⊎ (r ≤ n) → count_if n p + cond (p n) 1 0 ≡ r
+    prefix_step n r p h t f go (inl l) = let e : r ≡ suc n = omega arith in let a = count_all n p (λ k m. t k (omega arith)) in rw (t n l) (omega arith)
+    prefix_step n r p h t f go (inr l) = let a = go l in rw (f n l) (omega arith)
 
 le_true : (a b : ℕ) → a ≤ b → nat_le a b ≡ true
 le_true a b h = grind (arith, nat_tests)

@@ -1,16 +1,15 @@
 -- The laws of the least diagonal: it makes a shift dominant, it is one, and what it is where R is zero.
-use Rattle.std.proofs.Common.{◌≡◌, ℕ, zero, suc, ◌+◌, ◌-◌, ◌*◌, ◌<◌, ◌≤◌, ◌==◌, if◌then◌else◌, ℤ, pos, negsuc, ◌+ℤ◌, ◌-ℤ◌, ◌*ℤ◌, neg_ℤ, ◌≤ℤ◌, ◌<ℤ◌, unsigned_abs, FitsSigned, List, length, length-set, get_or-set_same, get_or-set_other, ◌⊎◌, inl, inr, refl, sym, ap, ◌∙◌, arith}
+use Rattle.std.proofs.Common.{◌≡◌, ℕ, ◌+◌, ◌<◌, ◌≤◌, ◌==◌, if◌then◌else◌, ℤ, pos, ◌+ℤ◌, ◌-ℤ◌, ◌*ℤ◌, ◌≤ℤ◌, unsigned_abs, FitsSigned, List, length, length-set, get_or-set_same, get_or-set_other, ◌⊎◌, inl, inr, refl, sym, ap, ◌∙◌, arith}
 use Rattle.std.proofs.lemmas.Int.{ints, int_max_is, fits_signed_from_abs}
 use Rattle.std.proofs.lemmas.Bool.{cases_eq}
 use Rattle.std.specs.Int.{int_max, w128}
-use Rattle.gap_base.specs.Sums.{sum_below, abs_z, lower, at}
-use Rattle.gap_base.proofs.Ring.{linear, if_same, if_other}
+use Rattle.gap_base.specs.Sums.{abs_z, lower}
+use Rattle.gap_base.proofs.Ring.{if_same, if_other}
 use Rattle.gap_base.proofs.SumLaws.{sum_same, sum-scale, sum_all_zero}
-use Rattle.gap_psd.specs.Forms.{others, gram, remainder, IsDominant}
+use Rattle.gap_psd.specs.Forms.{others, gram, remainder}
 use Rattle.gap_psd.specs.Shifts.{ShiftValue, r_of, d_of, with_d, with_diagonal, rest, IsDominantShift}
 use Rattle.gap_psd.specs.Factors.{IsEnough, IsLeastAt, AreLeast, no_factor}
-use Rattle.gap_factor.specs.Plain.{plain_of}
-use Rattle.gap_factor.specs.Diagonals.{IsLeastStep, IsTooMuch, AreSet}
+use Rattle.gap_factor.specs.Diagonals.{IsLeastStep, AreSet}
 use Rattle.gap_psd.proofs.ShiftLaws.{others_without_diagonal, diagonal_entry}
 
 moved_over : (o x d g y : ℤ) → o ≤ℤ (pos 1000000000000 *ℤ (x +ℤ d) -ℤ g) → y ≡ x +ℤ d → o ≤ℤ (pos 1000000000000 *ℤ y -ℤ g)
@@ -42,7 +41,8 @@ pub least_same : (n : ℕ) (C R S : ℕ → ℕ → ℤ) (i : ℕ) (d : ℤ) →
 least_same n C R S i d p h least = record {
   not_negative = least.not_negative;
   enough = enough_same n C R S i d p h least.enough;
-  least = λ e z w. least.least e z (enough_same n C S R i e p (λ a b x y. sym (h a b x y)) w) }
+  least = λ e z w. least.least e z (enough_same n C S R i e p (λ a b x y. sym (h a b x y)) w);
+}
 
 -- ---- the step from sums over the row to its least diagonal
 up_to : (o x g d : ℤ) → (o -ℤ (pos 1000000000000 *ℤ x -ℤ g)) ≤ℤ (pos 1000000000000 *ℤ d) → o ≤ℤ (pos 1000000000000 *ℤ (x +ℤ d) -ℤ g)
@@ -55,7 +55,8 @@ pub least_from_step : (n : ℕ) (C R : ℕ → ℕ → ℤ) (i : ℕ) (d : ℤ) 
 least_from_step n C R i d h = record {
   not_negative = h.not_negative;
   enough = up_to (others n (remainder n (pos 1000000000000) C R) i) (C i i) (gram n R i i) d h.enough;
-  least = λ e z w. h.least e z (down_to (others n (remainder n (pos 1000000000000) C R) i) (C i i) (gram n R i i) e w) }
+  least = λ e z w. h.least e z (down_to (others n (remainder n (pos 1000000000000) C R) i) (C i i) (gram n R i i) e w);
+}
 
 -- ---- where R is zero
 pub gram_zero : (n i j : ℕ) → gram n no_factor i j ≡ pos 0
@@ -87,7 +88,8 @@ pub plain_least : (n : ℕ) (C : ℕ → ℕ → ℤ) (i : ℕ) → IsLeastAt n 
 plain_least n C i = record {
   not_negative = plain_sign (others n C i -ℤ C i i);
   enough = plain_up (others n C i) (C i i) (gram n no_factor i i) (others n (remainder n (pos 1000000000000) C no_factor) i) (others_scaled n C i) (gram_zero n i i);
-  least = λ e z w. plain_down (others n C i) (C i i) (gram n no_factor i i) (others n (remainder n (pos 1000000000000) C no_factor) i) e (others_scaled n C i) (gram_zero n i i) z w }
+  least = λ e z w. plain_down (others n C i) (C i i) (gram n no_factor i i) (others n (remainder n (pos 1000000000000) C no_factor) i) e (others_scaled n C i) (gram_zero n i i) z w;
+}
 
 -- ---- a row of a shift whose D_i is 0
 short_is : (o x y g z d : ℤ) → o ≡ z → x ≡ pos 1000000000000 *ℤ (y +ℤ d) -ℤ g → d ≡ pos 0 → o -ℤ x ≡ z -ℤ (pos 1000000000000 *ℤ y -ℤ g)
@@ -123,7 +125,8 @@ set_at C s t i v size l h here = let z = h.size in record {
   factor = h.factor;
   size = length-set t.diagonal i v ∙ h.size;
   least = λ k m. set_by C s t i v (omega arith) here h.least k m (cases_eq k i);
-  none = λ k m. get_or-set_other t.diagonal i k v (pos 0) (λ e. omega arith) ∙ h.none k (omega arith) }
+  none = λ k m. get_or-set_other t.diagonal i k v (pos 0) (λ e. omega arith) ∙ h.none k (omega arith);
+}
 
 pub set_step : (C : ℕ → ℕ → ℤ) (s t u : ShiftValue) (i : ℕ) (v : ℤ) → length s.diagonal ≡ s.assets → i < s.assets → AreSet C s t i → IsLeastAt t.assets C (r_of t) i v → u ≡ with_d t i v → AreSet C s u (i + 1)
 set_step C s t u i v size l h here e = rw e (set_at C s t i v size l h (least_moved C s t i v h.assets h.factor here))

@@ -1,8 +1,8 @@
 -- How the shift with R zero is made, column by column.
-use Rattle.std.proofs.Common.{◌≡◌, ℕ, ◌+◌, ◌<◌, ◌≤◌, List, length, slice_set, ℤ, pos, ◌⊎◌, inl, inr, refl, sym, ap, ◌∙◌, arith, length-set, get_or-set_same, get_or-set_other}
+use Rattle.std.proofs.Common.{◌≡◌, ℕ, ◌+◌, ◌<◌, List, length, slice_set, ℤ, pos, ◌⊎◌, inl, inr, sym, ap, ◌∙◌, arith, length-set, get_or-set_same, get_or-set_other}
 use Rattle.std.proofs.lemmas.Bool.{cases_eq}
 use Rattle.gap_base.specs.Sums.{at}
-use Rattle.gap_psd.specs.Shifts.{ShiftValue, r_of, d_of, with_d}
+use Rattle.gap_psd.specs.Shifts.{ShiftValue, r_of, with_d}
 use Rattle.gap_factor.specs.Columns.{SameBeside}
 use Rattle.gap_factor.specs.Plain.{plain_of, ArePlain}
 
@@ -19,7 +19,8 @@ plain_at C s t u i v size l h g here e = let z = h.size in let y : length u.diag
   assets = g.assets ∙ h.assets;
   size = length-set u.diagonal i v ∙ y ∙ h.size;
   zero_before = λ a b p q. zero_by s t u i l h.assets g here h.zero_before a b p q (cases_eq b i);
-  plain_before = λ k p. plain_by C s.assets u.diagonal t.diagonal i v (omega arith) e (sym g.diagonal) h.plain_before k p (cases_eq k i) }
+  plain_before = λ k p. plain_by C s.assets u.diagonal t.diagonal i v (omega arith) e (sym g.diagonal) h.plain_before k p (cases_eq k i);
+}
 
 pub plain_step : (C : ℕ → ℕ → ℤ) (s t u w : ShiftValue) (i : ℕ) (v : ℤ) → length s.diagonal ≡ s.assets → i < s.assets → ArePlain C s t i → SameBeside t u i → ((a : ℕ) → a < t.assets → r_of u a i ≡ pos 0) → v ≡ plain_of s.assets C i → w ≡ with_d u i v → ArePlain C s w (i + 1)
 plain_step C s t u w i v size l h g here e f = rw f (plain_at C s t u i v size l h g here e)

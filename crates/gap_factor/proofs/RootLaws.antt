@@ -1,5 +1,5 @@
 -- What std's whole square root is, as code reads it.
-use Rattle.std.proofs.Common.{◌≡◌, ℕ, zero, suc, ◌+◌, ◌*◌, ◌<◌, ◌≤◌, ◌^◌, ℤ, pos, ◌<ℤ◌, ◌⊎◌, inl, inr, sym, ap, ◌∙◌, refl, FitsSigned, to_z, of_z, unsigned_abs, arith, mul-le-mul, lit<}
+use Rattle.std.proofs.Common.{◌≡◌, ℕ, zero, suc, ◌+◌, ◌*◌, ◌<◌, ◌≤◌, ℤ, pos, ◌<ℤ◌, ◌⊎◌, inl, inr, sym, ap, ◌∙◌, FitsSigned, to_z, of_z, unsigned_abs, arith, mul-le-mul}
 use Rattle.std.proofs.lemmas.Int.{ints, to_z-of_z, fits_signed_from_abs}
 use Rattle.std.proofs.lemmas.Bool.{cases_lt}
 use Rattle.std.specs.Int.{w64, w128, IsIsqrt}

@@ -7,15 +7,13 @@ ghost use Rattle.gap_psd.specs.Shifts.{r_of, d_of, total_of, IsDominantShift};
 ghost use Rattle.gap_psd.specs.Factors.{no_factor, AreLeast, IsRoundedFactor, IsAtMostRounded, IsBelowRounded, IsChosen};
 ghost use Rattle.gap_factor.specs.Plain.{plain_of};
 
-use std::alloc::Global;
-
-use gap_base::OutOfMemory;
-use gap_instance::Instance;
-use gap_psd::Shift;
-
 use crate::columns::make_factor;
 use crate::diagonal::set_diagonal;
 use crate::plain::{plain_total, set_plain};
+use gap_base::OutOfMemory;
+use gap_instance::Instance;
+use gap_psd::Shift;
+use std::alloc::Global;
 
 /// Makes the rounded factor and its least diagonal, and says whether it is to be taken: no D_i is above 10^21, and the
 /// total is at most the one where R is zero.

@@ -17,7 +17,11 @@ fn ceil_part(short: i128) -> i128
     ensures small { unsigned_abs result ≤ 323049000000000000000001 }
 {
     let below = short.div_euclid(1_000_000_000_000);
-    if below * 1_000_000_000_000 < short { below + 1 } else { below }
+    if below * 1_000_000_000_000 < short {
+        below + 1
+    } else {
+        below
+    }
 }
 
 /// The least whole number from 0 on whose 10^12-fold is at least `short`.

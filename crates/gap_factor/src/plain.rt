@@ -8,10 +8,9 @@ ghost use Rattle.gap_psd.specs.Forms.{others};
 ghost use Rattle.gap_psd.specs.Shifts.{r_of, d_of};
 ghost use Rattle.gap_factor.specs.Plain.{plain_of};
 
+use crate::columns::clear_column;
 use gap_instance::Instance;
 use gap_psd::Shift;
-
-use crate::columns::clear_column;
 
 /// The size of a covariance of two assets, and 0 for one asset.
 fn off_size(inst: &Instance, i: u16, j: u16) -> i128
@@ -20,7 +19,11 @@ fn off_size(inst: &Instance, i: u16, j: u16) -> i128
     ensures value { result ≡ (if j == i then pos 0 else abs_z (cov_of inst.now.market i j)) }
     ensures small { unsigned_abs result ≤ 1000000000000000000 }
 {
-    if j == i { 0 } else { i128::from(inst.cov(i, j)).abs() }
+    if j == i {
+        0
+    } else {
+        i128::from(inst.cov(i, j)).abs()
+    }
 }
 
 /// The sum of the sizes of the covariances of asset `i` with the others.

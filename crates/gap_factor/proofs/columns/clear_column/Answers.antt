@@ -1,4 +1,4 @@
-use Rattle.std.proofs.Common.{ℕ, pos, refl, arith}
+use Rattle.std.proofs.Common.{pos, refl, arith}
 use Rattle.gap_factor.proofs.ColumnLaws.{written_step}
 use Rattle.gap_factor.proofs.columns.clear_column.Goals as goal
 

@@ -1,4 +1,4 @@
-use Rattle.std.proofs.Common.{ℕ, pos}
+use Rattle.std.proofs.Common.{pos}
 use Rattle.gap_factor.specs.Columns.{IsWritten}
 use Rattle.gap_factor.proofs.columns.clear_column.Given as goal
 

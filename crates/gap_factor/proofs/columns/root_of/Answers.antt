@@ -1,4 +1,3 @@
-use Rattle.std.proofs.Common.{◌≡◌}
 use Rattle.std.proofs.lemmas.Int.{to_z-of_z}
 use Rattle.gap_factor.proofs.RootLaws.{root_is, root_above}
 use Rattle.gap_factor.proofs.columns.root_of.Goals as goal

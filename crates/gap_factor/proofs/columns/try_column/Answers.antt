@@ -1,5 +1,5 @@
-use Rattle.std.proofs.Common.{◌≡◌, ℤ, pos, ◌≤ℤ◌, ◌<ℤ◌, sym, arith}
-use Rattle.std.proofs.lemmas.Int.{ints, to_z-of_z}
+use Rattle.std.proofs.Common.{pos, ◌≤ℤ◌, ◌<ℤ◌, sym, arith}
+use Rattle.std.proofs.lemmas.Int.{ints}
 use Rattle.gap_instance.specs.Objective.{cov_of}
 use Rattle.gap_psd.specs.Shifts.{r_of}
 use Rattle.gap_psd.specs.Factors.{owed}
