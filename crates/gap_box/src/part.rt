@@ -132,8 +132,8 @@ impl Part {
         }
     }
 
-    /// How many cells must be held.
-    fn held_cells(&self) -> u16
+    /// How many cells must be held. It costs one pass.
+    pub fn held_cells(&self) -> u16
         ensures count { result ≡ helds self.now }
         ensures most { result ≤ 256 }
     {

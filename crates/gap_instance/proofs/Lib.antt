@@ -1,3 +1,5 @@
+pub mod Bound
 pub mod LimitLaws
 pub mod ObjectiveLaws
+pub mod SpreadLaws
 pub mod TableLaws

@@ -2,4 +2,5 @@ pub mod Instances
 pub mod Limits
 pub mod Neighbours
 pub mod Objective
+pub mod Spreads
 pub mod Tables

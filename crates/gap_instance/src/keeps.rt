@@ -74,9 +74,9 @@ impl Instance {
         ensures some { IfSome result (IsFirstWhere (IsAboveGreatest self.now x.now) self.now.market.assets) }
         ensures none { IfNone result (IsOfNone (IsAboveGreatest self.now x.now) self.now.market.assets) }
     {
-        for i in 0..self.n() {
-            if self.hi(i) < x.get(i) {
-                return Some(i);
+        for asset in 0..self.n() {
+            if self.hi(asset) < x.get(asset) {
+                return Some(asset);
             }
         }
         None
@@ -89,8 +89,8 @@ impl Instance {
         ensures { pos result ≡ turnover_of self.now.market.assets self.now.present x.now }
     {
         let mut total: u32 = 0;
-        for i in 0..self.n() {
-            total += u32::from(x.get(i).abs_diff(self.present(i)));
+        for place in 0..self.n() {
+            total += u32::from(x.get(place).abs_diff(self.present(place)));
         }
         total
     }

@@ -5,6 +5,8 @@
 mod covariances;
 mod instance;
 mod keeps;
+#[cfg(test)]
+mod tests;
 
 pub use instance::Instance;
 pub use keeps::Broken;

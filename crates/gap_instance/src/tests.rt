@@ -1,0 +1,69 @@
+//! The answers of `keeps`, and what an instance reads back.
+
+ghost use Rattle.std.specs.Prelude.{◌≡◌, ℕ, ◌≤◌, [], ◌∷◌, IfSome};
+
+use crate::{Broken, Instance};
+use gap_base::{Job, Lots, Market, OutOfMemory, Weights};
+use std::alloc::Global;
+use std::test::Fail;
+
+/// The list of three numbers.
+fn three(a: u16, b: u16, c: u16) -> Lots
+    ensures { result ≡ a ∷ b ∷ c ∷ [] }
+{
+    let mut list = Lots::zeros(3);
+    list.set(0, a);
+    list.set(1, b);
+    list.set(2, c);
+    list
+}
+
+/// Three assets: 10 lots in 2 assets, least 2, 1 and 1, greatest 8, 9 and 4, and 5, 0 and 3 lots at present.
+#[tactic(auto, using(crate::proofs::LimitLaws::few_numbers))]
+fn instance(alloc: Global, turnover: Option<u32>) -> Result<Instance, OutOfMemory>
+    requires { IfSome turnover (λ t. t ≤ 3000000) }
+{
+    let job = Job {
+        lots: 10,
+        held: 2,
+        least: three(2, 1, 1),
+        greatest: three(8, 9, 4),
+        present: three(5, 0, 3),
+        turnover,
+        weights: Weights::new(),
+        nodes: 0,
+        workers: 1,
+    };
+    Instance::new(alloc, Market::new(alloc, 3)?, &job)
+}
+
+#[test]
+fn keeps_answers_the_first_broken_limit(rt: HostRuntime) -> Result<(), Fail> {
+    let inst = instance(rt.alloc(), None)?;
+    assert_eq!(rt; inst.keeps(&three(8, 2, 0)), None);
+    assert_eq!(rt; inst.keeps(&Lots::zeros(4)), Some(Broken::Length));
+    assert_eq!(rt; inst.keeps(&three(8, 1, 0)), Some(Broken::Lots));
+    assert_eq!(rt; inst.keeps(&three(10, 0, 0)), Some(Broken::Held));
+    assert_eq!(rt; inst.keeps(&three(4, 4, 2)), Some(Broken::Held));
+    assert_eq!(rt; inst.keeps(&three(1, 9, 0)), Some(Broken::Least(0)));
+    assert_eq!(rt; inst.keeps(&three(0, 5, 5)), Some(Broken::Greatest(2)));
+    Ok(())
+}
+
+#[test]
+fn the_earlier_of_two_broken_limits_is_answered(rt: HostRuntime) -> Result<(), Fail> {
+    let inst = instance(rt.alloc(), None)?;
+    assert_eq!(rt; inst.keeps(&three(9, 0, 0)), Some(Broken::Lots));
+    assert_eq!(rt; inst.keeps(&three(10, 0, 0)), Some(Broken::Held));
+    assert_eq!(rt; inst.keeps(&three(1, 0, 9)), Some(Broken::Least(0)));
+    Ok(())
+}
+
+#[test]
+fn the_turnover_counts_the_lots_of_assets_given_up(rt: HostRuntime) -> Result<(), Fail> {
+    let at_the_limit = instance(rt.alloc(), Some(8))?;
+    assert_eq!(rt; at_the_limit.keeps(&three(8, 2, 0)), None);
+    let above_it = instance(rt.alloc(), Some(7))?;
+    assert_eq!(rt; above_it.keeps(&three(8, 2, 0)), Some(Broken::Turnover));
+    Ok(())
+}

@@ -1,0 +1,12 @@
+pub mod Firsts
+pub mod Runs
+pub mod Steps
+pub mod Histories
+pub mod Ends
+pub mod Grown
+pub mod Says
+pub mod PairLaws
+pub mod Items
+pub mod MarketFields
+pub mod Reading
+pub mod Words

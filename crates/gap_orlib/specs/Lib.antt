@@ -1,0 +1,8 @@
+pub mod Tokens
+pub mod Sheets
+pub mod Ports
+pub mod States
+pub mod Fields
+pub mod Answers
+pub mod Views
+pub mod ReaderViews

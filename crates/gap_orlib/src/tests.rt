@@ -1,0 +1,127 @@
+//! Rows of port files: what each is, fed whole, in pieces of 7 bytes and byte by byte.
+
+ghost use Rattle.std.specs.Prelude.{◌<◌};
+
+use super::*;
+use gap_base::Market;
+use std::alloc::Global;
+use std::test::Fail;
+
+/// Reads the text in pieces of at most `size` bytes.
+fn read(alloc: Global, text: &[u8], size: usize) -> Result<Market, PortStop>
+    requires { 0 < size }
+{
+    let mut reader = Reader::new(alloc);
+    for piece in text.chunks(size) {
+        let _answer = reader.feed(piece);
+    }
+    reader.finish()
+}
+
+#[test]
+fn first_faults(rt: HostRuntime) {
+    let rows: [(&str, u64, PortKind); 21] = [
+        ("", 0, PortKind::Short),
+        ("257", 0, PortKind::Count),
+        (" +1 ", 1, PortKind::Count),
+        ("2.0", 0, PortKind::Count),
+        ("2\n.001 -.1\n", 7, PortKind::Deviation),
+        ("2\n.001 1.0000005\n", 7, PortKind::Range),
+        ("2\n.001x .1\n", 2, PortKind::Numeral),
+        ("2\n-1.0000005 .1\n", 2, PortKind::Range),
+        ("2\n.001 .1\n.002", 14, PortKind::Short),
+        ("2\n.001 .1\n.002 .2\n1 2 1.000001\n", 22, PortKind::Range),
+        ("2\n.001 .1\n.002 .2\n1 2 1e41\n", 22, PortKind::Numeral),
+        ("2\n.001 .1\n.002 .2\n1 3 0\n", 20, PortKind::Index),
+        ("2\n.001 .1\n.002 .2\n0 2 0\n", 18, PortKind::Index),
+        ("2\n.001 .1\n.002 .2\n1 1 .5\n", 22, PortKind::Diagonal),
+        (
+            "2\n.001 .1\n.002 .2\n",
+            18,
+            PortKind::Missing { i: 1, j: 2 },
+        ),
+        ("2\n.001 .1\n.002 .2\n1 2", 21, PortKind::Short),
+        (
+            "2\n.001 .1\n.002 .2\n1 2 0\n2 1 .5\n",
+            28,
+            PortKind::Conflict { i: 1, j: 2 },
+        ),
+        (
+            "2\n.001 .1\n.002 .2\n1 2 0\n1 2 1e-6\n9 x",
+            28,
+            PortKind::Conflict { i: 1, j: 2 },
+        ),
+        (
+            "3 0 0 0 0 0 0 2 1 0 3 2 0",
+            25,
+            PortKind::Missing { i: 1, j: 3 },
+        ),
+        ("3 0 0 0 0 0 0 2 1 0 3 2 0 1", 27, PortKind::Short),
+        ("2 x 0 0 0 1", 2, PortKind::Numeral),
+    ];
+    for (text, place, kind) in rows {
+        for size in [1usize, 7, 100] {
+            let answer = read(rt.alloc(), text.as_bytes(), size);
+            let Err(stop) = answer else {
+                panic!(rt; "a market: {text}");
+            };
+            assert_eq!(rt;
+                stop,
+                PortStop::Fault(PortFault { place, kind }),
+                "at {text}"
+            );
+        }
+    }
+}
+
+#[test]
+fn markets(rt: HostRuntime) -> Result<(), Fail> {
+    let rows: [(&str, i32, u32); 5] = [
+        ("2\n.001 .1\n.002 .2\n1 2 0\n", 0, 0),
+        ("2\n.001 .1\n.002 .2\n1 2 0\n2 1 0\n", 0, 0),
+        ("+02\t1e-3 .1\r\n.002 .2 2 +1 -.5", -500_000, 0),
+        (
+            "2 .0010000004 .1 .002 .2 1 2 -1 2 1 -1.0000004 1 1 1",
+            -1_000_000,
+            2,
+        ),
+        (
+            "2 .001 .1 .002 .2 1 2 .0000005 2 2 1.0000001 2 1 .000001\n\x1a",
+            1,
+            2,
+        ),
+    ];
+    for (text, rho, rounded) in rows {
+        for size in [1usize, 7, 100] {
+            let market = read(rt.alloc(), text.as_bytes(), size)?;
+            assert_eq!(rt; market.n(), 2, "at {text}");
+            if market.n() == 2 {
+                assert_eq!(rt; market.mean(0), 1000, "at {text}");
+                assert_eq!(rt; market.dev(1), 200_000, "at {text}");
+                assert_eq!(rt; market.rho(1, 0), rho, "at {text}");
+                assert_eq!(rt; market.rounded(), rounded, "at {text}");
+            }
+        }
+    }
+    Ok(())
+}
+
+#[test]
+fn too_long(rt: HostRuntime) -> Result<(), Fail> {
+    let blanks = vec![in rt.alloc(); b' '; 65_536]?;
+    let mut reader = Reader::new(rt.alloc());
+    for _ in 0..256 {
+        assert_eq!(rt; reader.feed(blanks.as_slice()), Ok(()));
+    }
+    let stop = PortStop::Fault(PortFault {
+        place: 16_777_216,
+        kind: PortKind::TooLong,
+    });
+    assert_eq!(rt; reader.feed(b"2"), Err(stop));
+    assert_eq!(rt; reader.feed(b" "), Err(stop));
+    let Err(last) = reader.finish() else {
+        panic!(rt; "a market of too many bytes");
+    };
+    assert_eq!(rt; last, stop);
+    Ok(())
+}
