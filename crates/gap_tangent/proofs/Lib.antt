@@ -1,0 +1,6 @@
+pub mod OneAsset
+pub mod Separable
+pub mod TermLaws
+pub mod Tables
+pub mod Priced
+pub mod SettingLaws

@@ -1,0 +1,10 @@
+//! The tangent bound of the objective under a weight.
+#![tactic(auto)]
+
+mod mean_variance;
+mod price;
+mod pricing;
+mod terms;
+
+pub use gap_base::{Eighths, Witness};
+pub use mean_variance::MeanVariance;
