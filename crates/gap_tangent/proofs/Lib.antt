@@ -4,3 +4,5 @@ pub mod TermLaws
 pub mod Tables
 pub mod Priced
 pub mod SettingLaws
+pub mod RowLaws
+pub mod SlopeLaws

@@ -20,7 +20,7 @@ product_is : (s : Setting) (v w : ℕ → ℤ) → product_of s v w ≡ double s
 unfolding product_of
 product_is s v w = refl
 
-tilt_is : (s : Setting) (y : ℕ → ℤ) (i : ℕ) → tilt_of s y i ≡ sum_below s.instance.market.assets (λ j. shifted_cov s i j *ℤ y j)
+pub tilt_is : (s : Setting) (y : ℕ → ℤ) (i : ℕ) → tilt_of s y i ≡ sum_below s.instance.market.assets (λ j. shifted_cov s i j *ℤ y j)
 unfolding tilt_of
 tilt_is s y i = refl
 

@@ -4,6 +4,8 @@
 mod mean_variance;
 mod price;
 mod pricing;
+mod rows;
+mod slopes;
 mod terms;
 
 pub use gap_base::{Eighths, Witness};
