@@ -1,7 +1,7 @@
 pub mod OneAsset
 pub mod Separable
 pub mod TermLaws
-pub mod Tables
+pub mod TableLaws
 pub mod Priced
 pub mod SettingLaws
 pub mod RowLaws

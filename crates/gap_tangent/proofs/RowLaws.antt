@@ -17,7 +17,7 @@ use Rattle.gap_instance.specs.Objective.{cov_of}
 use Rattle.gap_instance.proofs.ObjectiveLaws.{cov_of-size}
 use Rattle.gap_model.specs.Leaves.{IsPoint}
 use Rattle.gap_tangent.specs.Rows.{AreRowsBefore, AreRows}
-use Rattle.gap_tangent.proofs.Tables.{at_set_same, at_set_other}
+use Rattle.gap_tangent.proofs.TableLaws.{at_set_same, at_set_other}
 
 -- each number of a list is at most their sum
 pub one_of_sum : (y : List ℕ) (k : ℕ) → slice_index_or y k 0 ≤ sum y

@@ -6,6 +6,7 @@ mod price;
 mod pricing;
 mod rows;
 mod slopes;
+mod tables;
 mod terms;
 
 pub use gap_base::{Eighths, Witness};

@@ -109,7 +109,7 @@ fn less(a: i128, b: i128) -> i128
 }
 
 /// The slope of asset `i`.
-fn slope(mv: &MeanVariance<'_>, y: &Eighths, rows: &[i128; 256], i: u16) -> i128
+pub(crate) fn slope(mv: &MeanVariance<'_>, y: &Eighths, rows: &[i128; 256], i: u16) -> i128
     requires there { i < mv.now.instance.now.market.assets }
     requires point { IsPoint mv.now.instance.now y.now }
     requires rows { AreRows mv.now.instance.now.market y.now rows.now }
@@ -132,7 +132,7 @@ fn bent(p: u8, d: i128) -> i128
 }
 
 /// The bend of asset `i`.
-fn bend(mv: &MeanVariance<'_>, i: u16) -> i128
+pub(crate) fn bend(mv: &MeanVariance<'_>, i: u16) -> i128
     requires { i < mv.now.instance.now.market.assets }
     ensures value { result ≡ bend_of (setting_with mv.now.instance.now mv.now.shift.now mv.now.weight) i }
     ensures small { unsigned_abs result ≤ 6400000000000000000000000 }
@@ -164,7 +164,7 @@ fn eighths_at(mv: &MeanVariance<'_>, y: &Eighths, i: u16) -> u32
 
 /// The sum of the rows of A times the point, each times the eighths of its asset: `y'Ay`.
 #[tactic(auto, using(gap_base::proofs::SumLaws::sum_steps))]
-fn square_sum(mv: &MeanVariance<'_>, y: &Eighths, rows: &[i128; 256]) -> i128
+pub(crate) fn square_sum(mv: &MeanVariance<'_>, y: &Eighths, rows: &[i128; 256]) -> i128
     requires point { IsPoint mv.now.instance.now y.now }
     requires rows { AreRows mv.now.instance.now.market y.now rows.now }
     ensures value { result ≡ sum_below mv.now.instance.now.market.assets (λ i. tilt_of (setting_with mv.now.instance.now mv.now.shift.now mv.now.weight) (lots_at y.now) i *ℤ lots_at y.now i) }
@@ -178,7 +178,7 @@ fn square_sum(mv: &MeanVariance<'_>, y: &Eighths, rows: &[i128; 256]) -> i128
 }
 
 /// `p square`, taken off
-fn negated(p: u8, square: i128) -> i128
+pub(crate) fn negated(p: u8, square: i128) -> i128
     requires p { p ≤ 100 }
     requires square { unsigned_abs square ≤ 256 * 6408000000000000000000000000000 }
     ensures value { result ≡ neg_ℤ (pos p *ℤ square) }

@@ -6,7 +6,7 @@ use Rattle.gap_box.specs.declared.cell.Cell.{Cell}
 use Rattle.gap_relax.specs.Choices.{cell_at}
 use Rattle.gap_tangent.specs.Terms.{cost_of, IsHeldCost, IsPriced}
 use Rattle.gap_tangent.specs.Prices.{price_of}
-use Rattle.gap_tangent.proofs.Tables.{tables_more_at}
+use Rattle.gap_tangent.proofs.TableLaws.{tables_more_at}
 use Rattle.gap_tangent.proofs.Priced.{priced_from}
 use Rattle.gap_tangent.proofs.terms.fill.Goals as goal
 
