@@ -1,11 +1,9 @@
 -- Laws of cells in range.
 
-use Rattle.std.proofs.Common.{◌≡◌, ℕ, zero, suc, ◌+◌, ◌-◌, ◌*◌, ◌<◌, ◌≤◌, Bool, true, false, List, [], ◌∷◌, length, take, replicate, slice_index_or, slice_set, refl, arith, ap}
-use Rattle.std.proofs.lemmas.Bool.Decides.{nat_tests}
+use Rattle.std.proofs.Common.{ℕ, zero, suc, List, [], ◌∷◌, take, replicate, slice_index_or, slice_set}
 use Rattle.gap_box.specs.declared.cell.Cell.{Cell}
-use Rattle.gap_box.specs.declared.cell.Cell.TheVariants.{Out, Held, Free}
-use Rattle.gap_box.specs.Cells.{IsCell, AreCells, in_cell, choices}
-use Rattle.gap_box.specs.Parts.{indicator}
+use Rattle.gap_box.specs.declared.cell.Cell.TheVariants.{Out}
+use Rattle.gap_box.specs.Cells.{IsCell, AreCells}
 
 -- the cells behind the first
 pub rest_are : (cell : Cell) (cells : List Cell) → AreCells (cell ∷ cells) → AreCells cells

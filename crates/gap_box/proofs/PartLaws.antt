@@ -1,13 +1,13 @@
 -- Laws of parts by place.
 
-use Rattle.std.proofs.Common.{◌≡◌, ℕ, zero, suc, ◌+◌, ◌-◌, ◌*◌, ◌<◌, ◌≤◌, Bool, true, false, ltb, cond, List, [], ◌∷◌, length, take, replicate, slice_index_or, slice_set, refl, arith, ap, sym, ◌∙◌, length-take}
+use Rattle.std.proofs.Common.{◌≡◌, ℕ, zero, suc, ◌<◌, ◌≤◌, Bool, true, false, ltb, cond, List, [], ◌∷◌, length, take, slice_index_or, slice_set, refl, arith, ap, sym, ◌∙◌, length-take}
 use Rattle.std.proofs.lemmas.Bool.Decides.{nat_tests}
 use Rattle.std.proofs.Math.Seq.{take-set-lt}
 use Rattle.std.proofs.lemmas.List.{ext_get_or}
 use Rattle.gap_box.specs.declared.cell.Cell.{Cell}
-use Rattle.gap_box.specs.declared.cell.Cell.TheVariants.{Out, Held, Free}
-use Rattle.gap_box.specs.Cells.{IsCell, AreCells}
-use Rattle.gap_box.specs.Parts.{root_cell, root_cells, AreLimits}
+use Rattle.gap_box.specs.declared.cell.Cell.TheVariants.{Out, Free}
+use Rattle.gap_box.specs.Cells.{IsCell}
+use Rattle.gap_box.specs.Parts.{root_cell, root_cells}
 
 -- the root has a cell for each asset
 pub length-root : (lo hi : List ℕ) → length lo ≡ length hi → length (root_cells lo hi) ≡ length lo

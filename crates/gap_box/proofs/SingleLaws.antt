@@ -1,14 +1,14 @@
 -- When a part has one list that holds exactly k assets.
 
-use Rattle.std.proofs.Common.{◌≡◌, ◌≢◌, ◌↔◌, ◌⊎◌, inl, inr, ℕ, zero, suc, ◌+◌, ◌-◌, ◌*◌, ◌<◌, ◌≤◌, Bool, true, false, ◌&&◌, ◌||◌, ltb, leb, eqb, cond, List, [], ◌∷◌, length, Option, Some, None, slice_index_or, map, IsTrue, refl, arith, ap, sym, ◌∙◌}
+use Rattle.std.proofs.Common.{◌≡◌, ◌≢◌, ◌↔◌, ◌⊎◌, inl, inr, ℕ, zero, suc, ◌+◌, ◌-◌, ◌<◌, ◌≤◌, Bool, true, false, eqb, cond, List, [], ◌∷◌, length, Option, Some, None, slice_index_or, refl, arith, sym, ◌∙◌}
 use Rattle.std.proofs.lemmas.Bool.Decides.{nat_tests}
 use Rattle.gap_box.specs.declared.cell.Cell.{Cell}
 use Rattle.gap_box.specs.declared.cell.Cell.TheVariants.{Out, Held, Free}
-use Rattle.gap_box.specs.Cells.{IsCell, AreCells, in_cell, is_held, is_free}
-use Rattle.gap_box.specs.Parts.{in_part, held_count, helds, frees, can_meet, IsPick, IsSingle}
+use Rattle.gap_box.specs.Cells.{IsCell, AreCells, in_cell}
+use Rattle.gap_box.specs.Parts.{in_part, held_count, helds, frees, IsPick, IsSingle}
 use Rattle.gap_box.specs.Only.{only_number, onto, only_list}
 use Rattle.gap_box.proofs.CellLaws.{rest_are, first_is}
-use Rattle.gap_box.proofs.CountLaws.{one_held, one_must, one_may, held_count-cons, helds-cons, frees-cons, both_true, and_true, cell_range, pick_range, firsts, nexts, firsts_in, nexts_in, firsts_count, nexts_count, firsts_differ, in_held, in_free, held_one}
+use Rattle.gap_box.proofs.CountLaws.{one_held, one_must, one_may, held_count-cons, helds-cons, frees-cons, both_true, and_true, cell_range, pick_range, firsts_in, nexts_in, firsts_count, nexts_count, firsts_differ}
 
 -- how many a part holds where its free cells are held or aren't
 abbrev pub held_of : Bool → List Cell → ℕ

@@ -1,6 +1,6 @@
 -- The two children of a part have each of its lists exactly once, and their points add up.
 
-use Rattle.std.proofs.Common.{◌≡◌, ℕ, zero, suc, ◌+◌, ◌-◌, ◌*◌, ◌<◌, ◌≤◌, Bool, true, false, ◌&&◌, ◌||◌, ltb, leb, eqb, List, [], ◌∷◌, length, slice_index_or, slice_set, IsTrue, refl, arith, ap, sym, ◌∙◌, add-mul, mul-add, length-set}
+use Rattle.std.proofs.Common.{◌≡◌, ℕ, zero, suc, ◌+◌, ◌*◌, ◌<◌, ◌≤◌, Bool, true, false, ◌&&◌, ◌||◌, leb, eqb, List, [], ◌∷◌, length, slice_index_or, slice_set, IsTrue, refl, arith, add-mul, mul-add, length-set}
 use Rattle.std.proofs.lemmas.Bool.Decides.{nat_tests}
 use Rattle.gap_box.specs.declared.cell.Cell.{Cell}
 use Rattle.gap_box.specs.declared.cell.Cell.TheVariants.{Out, Held, Free}
@@ -10,6 +10,7 @@ use Rattle.gap_box.specs.declared.split.Side.{Side}
 use Rattle.gap_box.specs.declared.split.Side.TheVariants.{First, Second}
 use Rattle.gap_box.specs.Cells.{IsCell, AreCells, in_cell, choices, is_free}
 use Rattle.gap_box.specs.Parts.{indicator, in_part, points, IsWithin}
+use Rattle.gap_box.proofs.CellLaws.{set_are}
 use Rattle.gap_box.specs.Splits.{can_cut, lawful_split, held_side, cut_side, child_cells}
 
 -- each number of a cell is in exactly one of two others
@@ -101,3 +102,20 @@ second_of_two false q false e h = cc
 pub child_within : (cells : List Cell) (split : Split) (side : Side) → AreCells cells → IsTrue (lawful_split cells split) → IsWithin (child_cells cells split side) cells
 child_within cells split First h e = record { same_length = length-child cells split First; inside = λ x p. first_of_two _ _ _ (child_once cells split h e x) p }
 child_within cells split Second h e = record { same_length = length-child cells split Second; inside = λ x p. second_of_two _ _ _ (child_once cells split h e x) p }
+
+held_side_is : (cell : Cell) (side : Side) → IsCell cell → IsCell (held_side cell side)
+held_side_is Out side h = tt
+held_side_is (Held l u) side h = h
+held_side_is (Free l u) First h = tt
+held_side_is (Free l u) Second h = h
+
+cut_side_is : (cell : Cell) (t : ℕ) (side : Side) → can_cut cell t ≡ true → IsCell cell → IsCell (cut_side t cell side)
+cut_side_is Out t side e h = tt
+cut_side_is (Held l u) t First e h = let k : (l ≤ t) × (t < u) = grind (arith, nat_tests) in let m = h.0 in let n = h.2 in (m, k.0, omega arith)
+cut_side_is (Held l u) t Second e h = let k : (l ≤ t) × (t < u) = grind (arith, nat_tests) in (omega arith, omega arith, h.2)
+cut_side_is (Free l u) t side e h = cc
+
+-- the cells of a child of a lawful split are in range
+pub child_are : (cells : List Cell) (split : Split) (side : Side) → AreCells cells → IsTrue (lawful_split cells split) → AreCells (child_cells cells split side)
+child_are cells (Hold i) side h e = set_are cells i (held_side (slice_index_or cells i Out) side) (held_side_is (slice_index_or cells i Out) side (h.each i)) h
+child_are cells (Cut i t) side h e = set_are cells i (cut_side t (slice_index_or cells i Out) side) (cut_side_is (slice_index_or cells i Out) t side e (h.each i)) h

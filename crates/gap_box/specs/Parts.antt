@@ -1,6 +1,6 @@
 -- Parts: lists of cells, and the lists of lots that they have. Own to portgap.
 
-use Rattle.std.specs.Prelude.{◌≡◌, ℕ, zero, suc, ◌+◌, ◌*◌, ◌≤◌, ◌<◌, Bool, true, false, ◌&&◌, ltb, leb, List, [], ◌∷◌, length, count_by, slice_index_or, IsTrue, cond}
+use Rattle.std.specs.Prelude.{◌≡◌, ℕ, ◌+◌, ◌*◌, ◌≤◌, ◌<◌, Bool, true, false, ◌&&◌, ltb, leb, List, [], ◌∷◌, length, count_by, slice_index_or, IsTrue, cond}
 use Rattle.gap_box.specs.declared.cell.Cell.{Cell}
 use Rattle.gap_box.specs.declared.cell.Cell.TheVariants.{Out, Free}
 use Rattle.gap_box.specs.Cells.{in_cell, is_held, is_free, choices}

@@ -1,6 +1,6 @@
 -- Splits of a part into two. Own to portgap.
 
-use Rattle.std.specs.Prelude.{◌≡◌, ℕ, suc, ◌+◌, Bool, true, false, ◌&&◌, ltb, leb, List, slice_index_or, slice_set}
+use Rattle.std.specs.Prelude.{ℕ, ◌+◌, Bool, false, ◌&&◌, ltb, leb, List, slice_index_or, slice_set}
 use Rattle.gap_box.specs.declared.cell.Cell.{Cell}
 use Rattle.gap_box.specs.declared.cell.Cell.TheVariants.{Out, Held, Free}
 use Rattle.gap_box.specs.declared.split.Split.{Split}

@@ -1,5 +1,6 @@
 -- Laws of the limits.
-use Rattle.std.proofs.Common.{◌≡◌, ℕ, zero, suc, ◌<◌, ◌≤◌, List, [], ◌∷◌, length, slice_index_or, pos, refl, arith}
+use Rattle.std.proofs.Common.{◌≡◌, ℕ, zero, suc, ◌<◌, ◌≤◌, List, [], ◌∷◌, length, replicate, slice_index_or, pos, refl, arith}
+use Rattle.std.proofs.lemmas.List.{get_or-replicate, length-replicate}
 use Rattle.std.proofs.lemmas.Int.{ints}
 use Rattle.gap_instance.specs.Instances.{InstanceValue, AreBetween}
 use Rattle.gap_instance.specs.Limits.{MeetsLimits, IsFirstBroken, TurnsTooMuch}
@@ -19,20 +20,32 @@ broken_not_kept I x (Least i) h k = let a = k.least_kept i h.1.below h.1.here.0 
 broken_not_kept I x (Greatest i) h k = let a = k.greatest_kept i h.2.below in let b = h.2.here in omega arith
 broken_not_kept I x Turnover h k = turned_not_kept I x h.3 k
 
-three_least : (low a b c : ℕ) → low ≤ a → low ≤ b → low ≤ c → (i : ℕ) → i < 3 → low ≤ slice_index_or (a ∷ b ∷ c ∷ []) i 0
-three_least low a b c p q r zero h = p
-three_least low a b c p q r (suc zero) h = q
-three_least low a b c p q r (suc (suc zero)) h = r
-three_least low a b c p q r (suc (suc (suc i))) h = omega arith
+-- n times one number in low..high
+pub AreBetween-replicate : (n low high v : ℕ) → low ≤ v → v ≤ high → AreBetween n low high (replicate n v)
+AreBetween-replicate n low high v p q = record {
+  count = length-replicate n v;
+  least = λ i h. rw (get_or-replicate n i v 0 h) p;
+  most = λ i h. rw (get_or-replicate n i v 0 h) q;
+}
 
-three_most : (high a b c : ℕ) → a ≤ high → b ≤ high → c ≤ high → (i : ℕ) → i < 3 → slice_index_or (a ∷ b ∷ c ∷ []) i 0 ≤ high
-three_most high a b c p q r zero h = p
-three_most high a b c p q r (suc zero) h = q
-three_most high a b c p q r (suc (suc zero)) h = r
-three_most high a b c p q r (suc (suc (suc i))) h = omega arith
+two_within : (P : ℕ → Type 0) (a b : ℕ) → P a → P b → (i : ℕ) → i < 2 → P (slice_index_or (a ∷ b ∷ []) i 0)
+two_within P a b p q zero h = p
+two_within P a b p q (suc zero) h = q
+two_within P a b p q (suc (suc i)) h = absurd (omega arith)
+
+-- a list of two numbers in low..high
+pub AreBetween-two : (low high a b : ℕ) → low ≤ a → low ≤ b → a ≤ high → b ≤ high → AreBetween 2 low high (a ∷ b ∷ [])
+AreBetween-two low high a b p q u v = record { count = refl; least = two_within (λ n. low ≤ n) a b p q; most = two_within (λ n. n ≤ high) a b u v }
+
+three_within : (P : ℕ → Type 0) (a b c : ℕ) → P a → P b → P c → (i : ℕ) → i < 3 → P (slice_index_or (a ∷ b ∷ c ∷ []) i 0)
+three_within P a b c p q r zero h = p
+three_within P a b c p q r (suc zero) h = q
+three_within P a b c p q r (suc (suc zero)) h = r
+three_within P a b c p q r (suc (suc (suc i))) h = absurd (omega arith)
 
 -- a list of three numbers in low..high
 pub AreBetween-three : (low high a b c : ℕ) → low ≤ a → low ≤ b → low ≤ c → a ≤ high → b ≤ high → c ≤ high → AreBetween 3 low high (a ∷ b ∷ c ∷ [])
-AreBetween-three low high a b c p q r u v w = record { count = refl; least = three_least low a b c p q r; most = three_most high a b c u v w }
+AreBetween-three low high a b c p q r u v w = record { count = refl; least = three_within (λ n. low ≤ n) a b c p q r; most = three_within (λ n. n ≤ high) a b c u v w }
 
-pub ruleset three_numbers = (AreBetween-three)
+-- for lists of few numbers
+pub ruleset few_numbers = (AreBetween-two, AreBetween-three, AreBetween-replicate)

@@ -19,7 +19,7 @@ fn three(a: u16, b: u16, c: u16) -> Lots
 }
 
 /// Three assets: 10 lots in 2 assets, least 2, 1 and 1, greatest 8, 9 and 4, and 5, 0 and 3 lots at present.
-#[tactic(auto, using(crate::proofs::LimitLaws::three_numbers))]
+#[tactic(auto, using(crate::proofs::LimitLaws::few_numbers))]
 fn instance(alloc: Global, turnover: Option<u32>) -> Result<Instance, OutOfMemory>
     requires { IfSome turnover (λ t. t ≤ 3000000) }
 {

@@ -21,9 +21,10 @@ fn times(a: i64, b: i64) -> i128
     i128::from(a) * i128::from(b)
 }
 
-/// The product of the first `count` places of the rows `i` and `j` of R.
+/// The product of the first `count` places of the rows `i` and `j` of R, neither of which goes past its diagonal. Costs
+/// O(count) and takes no memory.
 #[tactic(auto, using(gap_base::proofs::SumLaws::sum_steps))]
-fn product_of_rows(shift: &Shift, i: u16, j: u16, count: u16) -> i128
+pub fn product_of_rows(shift: &Shift, i: u16, j: u16, count: u16) -> i128
     requires first { i < shift.now.assets }
     requires second { j < shift.now.assets }
     requires short_first { count ≤ i + 1 }

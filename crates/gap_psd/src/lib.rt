@@ -7,12 +7,12 @@
 
 mod dominance;
 mod quadratic;
-
 mod shift;
 
-
-pub use dominance::{dominant, row_of};
+pub use dominance::{dominant, product_of_rows, row_of};
 pub use gap_base::Row;
 pub use quadratic::form;
-
 pub use shift::Shift;
+
+#[cfg(test)]
+mod tests;

@@ -71,9 +71,9 @@ pub fn form(inst: &Instance, shift: &Shift, v: &[i64]) -> i128
     ensures not_negative { IsDominantShift (cov_of inst.now.market) shift.now → pos 0 ≤ℤ result }
     ensures small { unsigned_abs result ≤ 256 * 1640038400000000000000000000000000 }
 {
-    let mut sum: i128 = 0;
+    let mut total: i128 = 0;
     for i in 0..inst.n() {
-        sum += scaled_row(row_times(inst, shift, v, i), number_at(v, i));
+        total += scaled_row(row_times(inst, shift, v, i), number_at(v, i));
     }
-    sum
+    total
 }

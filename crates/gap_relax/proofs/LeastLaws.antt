@@ -1,6 +1,6 @@
 -- The start and the least differences make the least choice.
 
-use Rattle.std.proofs.Common.{◌≡◌, ℕ, zero, suc, ◌+◌, ◌-◌, ◌*◌, ◌^◌, ◌<◌, ◌≤◌, Bool, true, false, not, cond, ◌&&◌, ◌||◌, ◌==◌, ◌⊎◌, inl, inr, if◌then◌else◌, List, [], ◌∷◌, ◌++◌, length, slice_index_or, ℤ, pos, neg_ℤ, ◌+ℤ◌, ◌-ℤ◌, ◌*ℤ◌, ◌≤ℤ◌, ◌<ℤ◌, int_lt, unsigned_abs, refl, sym, ◌∙◌, ap, subst, arith, length-append, add-one, Less, Equal, Greater, lit<, leb, le_trans, mul-le-mul_right, to_z, of_z, FitsSigned}
+use Rattle.std.proofs.Common.{◌≡◌, ℕ, zero, suc, ◌+◌, ◌-◌, ◌*◌, ◌<◌, ◌≤◌, Bool, true, false, not, cond, ◌&&◌, ◌||◌, if◌then◌else◌, List, [], ◌∷◌, ◌++◌, length, slice_index_or, ℤ, pos, neg_ℤ, ◌+ℤ◌, ◌-ℤ◌, ◌*ℤ◌, ◌≤ℤ◌, int_lt, unsigned_abs, refl, sym, ◌∙◌, ap, subst, arith, length-append, add-one, Less, Equal, Greater, lit<, leb, le_trans, mul-le-mul_right, to_z, of_z, FitsSigned}
 use Rattle.std.specs.List.{sum_by, count_by, All}
 use Rattle.std.specs.List.Sorted.{IsPermutation, IsSplitAround}
 use Rattle.std.specs.Ordering.{int_cmp, is_lt}
@@ -13,18 +13,18 @@ use Rattle.std.specs.Int.{w128}
 use Rattle.std.proofs.lemmas.Bool.Decides.{nat_tests}
 use Rattle.gap_base.proofs.Machine.{back_of, fits_of}
 use Rattle.gap_base.specs.Sums.{sum_below, count_if, at, AreWithin}
-use Rattle.gap_base.proofs.Ring.{linear, expand, pull, *ℤ-+ℤ, +ℤ-*ℤ}
-use Rattle.gap_base.proofs.SumLaws.{sum_none, sum_more, sum_same, sum_le, sum-add, sum-sub, sum-const, sum_all_zero, unsigned_abs-sum}
-use Rattle.gap_base.proofs.Counts.{count_same, count_all, count_nowhere}
+use Rattle.gap_base.proofs.Ring.{linear, expand}
+use Rattle.gap_base.proofs.SumLaws.{sum_more, sum_same, sum_le, sum-add, sum-sub, sum-const, sum_all_zero, unsigned_abs-sum}
+use Rattle.gap_base.proofs.Counts.{count_all, count_nowhere}
 use Rattle.gap_box.specs.declared.cell.Cell.{Cell}
 use Rattle.gap_box.specs.declared.cell.Cell.TheVariants.{Out, Held, Free}
 use Rattle.gap_box.specs.Cells.{is_held, is_free}
-use Rattle.gap_box.specs.Parts.{helds, frees, can_meet}
-use Rattle.gap_relax.specs.Choices.{most_cost, cell_at, allows, IsChoice, total, IsLeastChoice}
+use Rattle.gap_box.specs.Parts.{helds, frees}
+use Rattle.gap_relax.specs.Choices.{cell_at, allows, IsChoice, total, IsLeastChoice}
 use Rattle.gap_relax.specs.Differences.{start_cost, difference, free_differences, gain, IsWithLeast}
-use Rattle.gap_relax.proofs.Order.{lt_true, lt_false, lt_not, gain_low, gain_high, gain_least}
+use Rattle.gap_relax.proofs.Order.{lt_false, lt_not, gain_low, gain_high}
 use Rattle.gap_relax.proofs.Places.{sum_at, count_at, sum_free, count_free, length_free, no_differences, more_differences}
-use Rattle.gap_relax.proofs.Prices.{count_two, sum_price, priced, priced_le, must, may, must_may, priced_is, allowed_is, IsBetween, pick_between}
+use Rattle.gap_relax.proofs.Prices.{count_two, sum_price, priced, priced_le, must, may, must_may, priced_is, allowed_is, pick_between}
 
 -- where no number lies below a price, nothing is gained
 no_gain : (price : ℤ) (xs : List ℤ) → ((k : ℕ) → k < length xs → price ≤ℤ at xs k) → sum_by (gain price) xs ≡ 0

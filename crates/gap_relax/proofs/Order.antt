@@ -1,7 +1,7 @@
 -- What the tests of order of whole numbers tell, and the gain below a price.
 
-use Rattle.std.proofs.Common.{◌≡◌, ℕ, ◌+◌, ◌*◌, ◌<◌, ◌≤◌, Bool, true, false, not, cond, if◌then◌else◌, ℤ, pos, negsuc, ◌+ℤ◌, ◌-ℤ◌, ◌*ℤ◌, ◌≤ℤ◌, ◌<ℤ◌, int_lt, unsigned_abs, refl, sym, ◌∙◌, ap, arith, ◌⊎◌, inl, inr}
-use Rattle.std.proofs.lemmas.Int.{ints, by_lt_z}
+use Rattle.std.proofs.Common.{◌≡◌, Bool, true, false, if◌then◌else◌, ℤ, pos, ◌-ℤ◌, ◌≤ℤ◌, ◌<ℤ◌, int_lt, unsigned_abs, refl, ap, arith, ◌⊎◌, inl, inr}
+use Rattle.std.proofs.lemmas.Int.{ints}
 use Rattle.gap_relax.specs.Differences.{gain}
 
 pub lt_true : (a b : ℤ) → int_lt a b ≡ true → a <ℤ b

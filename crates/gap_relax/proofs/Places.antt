@@ -1,16 +1,15 @@
 -- Lists seen by place: sums and counts over a list, over its places, and over the free cells.
 
-use Rattle.std.proofs.Common.{◌≡◌, ℕ, zero, suc, ◌+◌, ◌-◌, ◌*◌, ◌<◌, ◌≤◌, Bool, true, false, not, cond, ◌&&◌, if◌then◌else◌, List, [], ◌∷◌, ◌++◌, length, slice_index_or, ℤ, pos, ◌+ℤ◌, ◌-ℤ◌, ◌*ℤ◌, ◌≤ℤ◌, unsigned_abs, refl, sym, ◌∙◌, ap, arith, length-append, append-nil, add-one}
+use Rattle.std.proofs.Common.{◌≡◌, ℕ, zero, suc, ◌+◌, Bool, true, false, cond, ◌&&◌, if◌then◌else◌, List, [], ◌∷◌, ◌++◌, length, slice_index_or, ℤ, pos, ◌+ℤ◌, refl, sym, ◌∙◌, ap, arith, length-append, append-nil, add-one}
 use Rattle.std.specs.List.{sum_by, count_by}
-use Rattle.std.proofs.lemmas.List.Sums.{sum_by-cons, sum_by-append, sum_by_push}
+use Rattle.std.proofs.lemmas.List.Sums.{sum_by-cons, sum_by_push}
 use Rattle.std.proofs.lemmas.Int.{ints}
-use Rattle.gap_base.specs.Sums.{sum_below, count_if, at}
+use Rattle.gap_base.specs.Sums.{sum_below, count_if}
 use Rattle.gap_base.proofs.Ring.{linear}
 use Rattle.gap_base.proofs.SumLaws.{sum_none, sum_more}
 use Rattle.gap_base.proofs.Counts.{count_none, count_more}
 use Rattle.gap_box.specs.declared.cell.Cell.{Cell}
-use Rattle.gap_box.specs.declared.cell.Cell.TheVariants.{Out, Held, Free}
-use Rattle.gap_box.specs.Cells.{is_held, is_free}
+use Rattle.gap_box.specs.Cells.{is_free}
 use Rattle.gap_relax.specs.Choices.{cell_at}
 use Rattle.gap_relax.specs.Differences.{difference, free_differences}
 

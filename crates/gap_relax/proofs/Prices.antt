@@ -1,16 +1,15 @@
 -- One price parts the free cells that are held from those that aren't.
 
-use Rattle.std.proofs.Common.{◌≡◌, ℕ, zero, suc, ◌+◌, ◌-◌, ◌*◌, ◌<◌, ◌≤◌, Bool, true, false, not, cond, ◌&&◌, ◌||◌, ◌==◌, ◌⊎◌, inl, inr, if◌then◌else◌, List, [], ◌∷◌, ◌++◌, length, slice_index_or, ℤ, pos, ◌+ℤ◌, ◌-ℤ◌, ◌*ℤ◌, ◌≤ℤ◌, ◌<ℤ◌, int_lt, unsigned_abs, refl, sym, ◌∙◌, ap, arith, add-one}
+use Rattle.std.proofs.Common.{◌≡◌, ℕ, zero, suc, ◌+◌, ◌-◌, ◌<◌, ◌≤◌, Bool, true, false, not, cond, ◌&&◌, ◌||◌, ◌==◌, inl, inr, if◌then◌else◌, ℤ, pos, ◌+ℤ◌, ◌-ℤ◌, ◌*ℤ◌, ◌≤ℤ◌, int_lt, refl, sym, ◌∙◌, ap, arith, add-one}
 use Rattle.std.proofs.lemmas.Int.{ints}
 use Rattle.std.proofs.lemmas.Bool.{cases_eq}
-use Rattle.gap_base.specs.Sums.{sum_below, count_if, at}
-use Rattle.gap_base.proofs.Ring.{linear, expand, if_same, if_other, *ℤ-+ℤ}
-use Rattle.gap_base.proofs.SumLaws.{sum_none, sum_more, sum_same, sum_le, sum-add, sum-sub}
+use Rattle.gap_base.specs.Sums.{sum_below, count_if}
+use Rattle.gap_base.proofs.Ring.{linear, expand, if_same, if_other}
 use Rattle.gap_base.proofs.Counts.{count_none, count_more, count_same, count_implied}
 use Rattle.gap_box.specs.declared.cell.Cell.{Cell}
 use Rattle.gap_box.specs.declared.cell.Cell.TheVariants.{Out, Held, Free}
 use Rattle.gap_box.specs.Cells.{is_held, is_free}
-use Rattle.gap_relax.specs.Choices.{cell_at, allows}
+use Rattle.gap_relax.specs.Choices.{allows}
 use Rattle.gap_relax.specs.Differences.{gain}
 use Rattle.gap_relax.proofs.Order.{lt_true, lt_false, gain_low, gain_high, gain_least}
 

@@ -1,7 +1,7 @@
 -- Ways to hold k assets, each at a cost. Own to portgap.
 
-use Rattle.std.specs.Prelude.{◌≡◌, ℕ, ◌*◌, ◌^◌, ◌<◌, Bool, true, false, not, if◌then◌else◌, List, length, slice_index_or, ℤ, ◌≤ℤ◌, IsTrue}
-use Rattle.gap_base.specs.Sums.{sum_below, count_if, at}
+use Rattle.std.specs.Prelude.{◌≡◌, ℕ, ◌*◌, ◌^◌, ◌<◌, Bool, true, not, if◌then◌else◌, List, length, slice_index_or, ℤ, ◌≤ℤ◌, IsTrue}
+use Rattle.gap_base.specs.Sums.{sum_below, count_if}
 use Rattle.gap_box.specs.declared.cell.Cell.{Cell}
 use Rattle.gap_box.specs.declared.cell.Cell.TheVariants.{Out, Held, Free}
 

@@ -1,8 +1,8 @@
 -- What it costs more to hold the free cells than not to. Own to portgap.
 
-use Rattle.std.specs.Prelude.{◌≡◌, ℕ, zero, suc, ◌+◌, ◌*◌, ◌^◌, ◌<◌, ◌≤◌, Bool, true, false, not, if◌then◌else◌, List, [], ◌∷◌, ◌++◌, length, count_by, ℤ, pos, ◌+ℤ◌, ◌-ℤ◌, ◌*ℤ◌, int_lt, unsigned_abs}
+use Rattle.std.specs.Prelude.{◌≡◌, ℕ, zero, suc, ◌≤◌, not, if◌then◌else◌, List, [], ◌∷◌, ◌++◌, count_by, ℤ, pos, ◌+ℤ◌, ◌-ℤ◌, ◌*ℤ◌, int_lt, unsigned_abs}
 use Rattle.std.specs.List.{sum_by}
-use Rattle.gap_base.specs.Sums.{sum_below, count_if, at}
+use Rattle.gap_base.specs.Sums.{at}
 use Rattle.gap_box.specs.declared.cell.Cell.{Cell}
 use Rattle.gap_box.specs.Cells.{is_held, is_free}
 use Rattle.gap_relax.specs.Choices.{cell_at}

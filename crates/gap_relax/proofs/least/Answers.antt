@@ -1,4 +1,4 @@
-use Rattle.std.proofs.Common.{rules, arith, ◌≡◌, ℕ, ◌≤◌, ◌+◌, ◌-◌, true, length, take, FitsSigned, to_z, of_z}
+use Rattle.std.proofs.Common.{arith, ◌≡◌, ◌+◌, true, take, FitsSigned, to_z, of_z}
 use Rattle.std.specs.Int.{w128}
 use Rattle.gap_box.specs.Parts.{can_meet, helds, frees}
 use Rattle.gap_base.specs.Sums.{at}

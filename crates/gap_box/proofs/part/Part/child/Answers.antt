@@ -1,4 +1,4 @@
-use Rattle.std.proofs.Common.{List, ℕ, IsTrue, subst, sym, ◌≡◌, rules}
+use Rattle.std.proofs.Common.{List, subst, sym, ◌≡◌, rules}
 use Rattle.gap_box.specs.Parts.{IsWithin}
 use Rattle.gap_box.specs.Splits.{child_cells}
 use Rattle.gap_box.specs.declared.cell.Cell.{Cell}

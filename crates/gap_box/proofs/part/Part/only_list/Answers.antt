@@ -1,4 +1,4 @@
-use Rattle.std.proofs.Common.{rules, ◌≡◌, ℕ, List, Option, None, slice_index_or, sym, ◌∙◌, arith}
+use Rattle.std.proofs.Common.{◌≡◌, None, slice_index_or, sym, ◌∙◌, arith}
 use Rattle.gap_box.specs.declared.cell.Cell.TheVariants.{Out}
 use Rattle.gap_box.specs.Only.{only_number}
 use Rattle.gap_box.proofs.SingleLaws.{only_all, only_gap}

@@ -1,4 +1,4 @@
-use Rattle.std.proofs.Common.{rules, ◌≡◌, ◌≢◌, ◌+◌, true, false, sym, ◌∙◌, arith}
+use Rattle.std.proofs.Common.{◌≡◌, ◌≢◌, ◌+◌, true, false, sym, ◌∙◌, arith}
 use Rattle.gap_box.specs.Parts.{helds, frees}
 use Rattle.gap_box.proofs.SingleLaws.{single_by, single_no, held_of}
 use Rattle.gap_box.proofs.part.Part.single.Goals as goal

@@ -1,0 +1,12 @@
+//! Risk, return and the scaled objective of a list of lots, and the objective of a list that changes in two places at
+//! a time.
+#![tactic(auto)]
+
+mod holding;
+mod terms;
+#[cfg(test)]
+mod tests;
+mod totals;
+
+pub use holding::Holding;
+pub use totals::{ret, risk, value};
