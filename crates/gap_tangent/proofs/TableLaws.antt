@@ -1,0 +1,34 @@
+-- What a loop that writes a table place by place knows of it.
+
+use Rattle.std.proofs.Common.{◌≡◌, ℕ, ◌+◌, ◌<◌, ◌≤◌, List, length, set, slice_set, ◌⊎◌, inl, inr, ℤ, pos, refl, sym, subst, arith, get_or-set_same, get_or-set_other}
+use Rattle.std.proofs.lemmas.Bool.{cases_eq}
+use Rattle.gap_base.specs.Sums.{at}
+
+pub at_set_same : (xs : List ℤ) (i : ℕ) (v : ℤ) → i < length xs → at (slice_set xs i v) i ≡ v
+at_set_same xs i v h = get_or-set_same xs i v (pos 0) h
+
+pub at_set_other : (xs : List ℤ) (i k : ℕ) (v : ℤ) → (k ≡ i → ⊥) → at (slice_set xs i v) k ≡ at xs k
+at_set_other xs i k v n = get_or-set_other xs i k v (pos 0) n
+
+-- one more place of a table
+pub table_more : (P : ℕ → ℤ → Type 0) (xs : List ℤ) (i : ℕ) (v : ℤ) → i < length xs → ((k : ℕ) → k < i → P k (at xs k)) → P i v → (k : ℕ) → k < i + 1 → P k (at (slice_set xs i v) k)
+table_more P xs i v h before here k l = by_place (cases_eq k i)
+  where
+    by_place : (k ≡ i) ⊎ (k ≡ i → ⊥) → P k (at (slice_set xs i v) k)
+    by_place (inl e) = subst (λ (j : ℕ). P j (at (slice_set xs i v) j)) (sym e) (subst (λ (z : ℤ). P i z) (sym (at_set_same xs i v h)) here)
+    by_place (inr n) = subst (λ (z : ℤ). P k z) (sym (at_set_other xs i k v n)) (before k (omega (arith, n)))
+
+-- one more place of two tables
+pub tables_more : (P : ℕ → ℤ → ℤ → Type 0) (xs ys : List ℤ) (i : ℕ) (v w : ℤ) → i < length xs → i < length ys → ((k : ℕ) → k < i → P k (at xs k) (at ys k)) → P i v w → (k : ℕ) → k < i + 1 → P k (at (slice_set xs i v) k) (at (slice_set ys i w) k)
+tables_more P xs ys i v w h g before here k l = by_place (cases_eq k i)
+  where
+    by_place : (k ≡ i) ⊎ (k ≡ i → ⊥) → P k (at (slice_set xs i v) k) (at (slice_set ys i w) k)
+    by_place (inl e) = subst (λ (j : ℕ). P j (at (slice_set xs i v) j) (at (slice_set ys i w) j)) (sym e) (subst (λ (z : ℤ). P i z (at (slice_set ys i w) i)) (sym (at_set_same xs i v h)) (subst (λ (z : ℤ). P i v z) (sym (at_set_same ys i w g)) here))
+    by_place (inr n) = subst (λ (z : ℤ). P k z (at (slice_set ys i w) k)) (sym (at_set_other xs i k v n)) (subst (λ (z : ℤ). P k (at xs k) z) (sym (at_set_other ys i k w n)) (before k (omega (arith, n))))
+
+-- the same where the place that is written is known by an equation
+pub tables_more_at : (P : ℕ → ℤ → ℤ → Type 0) (xs ys : List ℤ) (i j : ℕ) (v w : ℤ) → j ≡ i → i < length xs → i < length ys → ((k : ℕ) → k < i → P k (at xs k) (at ys k)) → P i v w → (k : ℕ) → k < i + 1 → P k (at (slice_set xs j v) k) (at (slice_set ys j w) k)
+tables_more_at P xs ys i j v w e h g before here = subst (λ (m : ℕ). (k : ℕ) → k < i + 1 → P k (at (slice_set xs m v) k) (at (slice_set ys m w) k)) (sym e) (tables_more P xs ys i v w h g before here)
+
+pub table_more_at : (P : ℕ → ℤ → Type 0) (xs : List ℤ) (i j : ℕ) (v : ℤ) → j ≡ i → i < length xs → ((k : ℕ) → k < i → P k (at xs k)) → P i v → (k : ℕ) → k < i + 1 → P k (at (slice_set xs j v) k)
+table_more_at P xs i j v e h before here = subst (λ (m : ℕ). (k : ℕ) → k < i + 1 → P k (at (slice_set xs m v) k)) (sym e) (table_more P xs i v h before here)

@@ -1,0 +1,23 @@
+use Rattle.std.proofs.Common.{◌≡◌, ℕ, ◌+◌, ◌-◌, ◌*◌, ◌<◌, ◌≤◌, slice_index_or, ℤ, pos, ◌+ℤ◌, ◌-ℤ◌, ◌*ℤ◌, FitsSigned, to_z, of_z, sym, ap, ◌∙◌, arith}
+use Rattle.std.proofs.lemmas.Int.{to_z-of_z}
+use Rattle.std.specs.Int.{w32, w128}
+use Rattle.gap_base.specs.Sums.{at}
+use Rattle.gap_base.specs.Markets.{mean_of}
+use Rattle.gap_psd.specs.Shifts.{d_of}
+use Rattle.gap_model.specs.Lagrangian.{reward_of}
+use Rattle.gap_tangent.specs.Bounds.{setting_with}
+use Rattle.gap_tangent.specs.Terms.{tilt_of}
+use Rattle.gap_tangent.proofs.SlopeLaws.{tilt_parts}
+use Rattle.gap_tangent.proofs.slopes.tilt_at.Goals as goal
+
+pub returns-clause-value : goal.returns-clause-value
+returns-clause-value c =
+    let s = setting_with c.args.mv.now.instance.now c.args.mv.now.shift.now c.args.mv.now.weight in
+    let rows = c.args.rows.now in
+    let i = c.args.i in
+    let f1 : FitsSigned w128 c.row_at.result = record { sfits = c.row_at.type_inv } in
+    let f2 : FitsSigned w128 c.d.result = record { sfits = c.d.type_inv } in
+    let f3 : FitsSigned w128 c.tilted.result = record { sfits = c.tilted.type_inv } in
+    let t = simp to_z-of_z at c.tilted.ensures.value in
+    let e = t ∙ ap (λ z. z +ℤ c.d.result *ℤ pos c.eighths_at.result) c.row_at.ensures.value ∙ ap (λ z. at rows i +ℤ z *ℤ pos c.eighths_at.result) c.d.ensures.value ∙ ap (λ (n : ℕ). at rows i +ℤ d_of c.args.mv.now.shift.now i *ℤ pos n) c.eighths_at.ensures.value ∙ tilt_parts s c.args.y.now rows i c.requires.there c.requires.rows in
+    simp to_z-of_z e

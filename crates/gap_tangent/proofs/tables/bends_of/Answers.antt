@@ -1,0 +1,35 @@
+use Rattle.std.proofs.Common.{◌≡◌, ℕ, ◌+◌, ◌<◌, ◌≤◌, length, ℤ, pos, ◌≤ℤ◌, unsigned_abs, FitsSigned, to_z, of_z, ◌∙◌, arith, length-set}
+use Rattle.std.proofs.lemmas.Int.{to_z-of_z}
+use Rattle.std.specs.Int.{w128}
+use Rattle.gap_base.specs.Sums.{at}
+use Rattle.gap_tangent.specs.Bounds.{setting_with}
+use Rattle.gap_tangent.specs.Terms.{bend_of}
+use Rattle.gap_tangent.proofs.TableLaws.{table_more_at}
+use Rattle.gap_tangent.proofs.tables.bends_of.Goals as goal
+
+pub loop-i-init : goal.loop-i-init
+loop-i-init c = record { size = omega arith; bends = λ k h. absurd (omega arith); small = λ k h. absurd (omega arith); signs = λ k h. absurd (omega arith) }
+
+pub loop-i-preserved : goal.loop-i-preserved
+loop-i-preserved c =
+    let s = setting_with c.args.mv.now.instance.now c.args.mv.now.shift.now c.args.mv.now.weight in
+    let f : FitsSigned w128 c.bend-value.result = record { sfits = c.bend-value.type_inv } in
+    let inv = c.loop-i.invariant in
+    let i = c.loop-i.i in
+    let n = inv.size in
+    let e : c.from-place.result ≡ i = omega arith in
+    simp to_z-of_z (record {
+      size = length-set c.loop-i.bends c.from-place.result c.bend-value.result ∙ inv.size;
+      bends = table_more_at (λ k z. z ≡ bend_of s k) c.loop-i.bends i c.from-place.result c.bend-value.result e (omega arith) inv.bends c.bend-value.ensures.value;
+      small = table_more_at (λ k z. unsigned_abs z ≤ 6400000000000000000000000) c.loop-i.bends i c.from-place.result c.bend-value.result e (omega arith) inv.small c.bend-value.ensures.small;
+      signs = table_more_at (λ k z. pos 0 ≤ℤ z) c.loop-i.bends i c.from-place.result c.bend-value.result e (omega arith) inv.signs c.bend-value.ensures.sign
+    })
+
+pub returns-clause-bends : goal.returns-clause-bends
+returns-clause-bends c = λ i h. c.loop-i.invariant.bends i (omega arith)
+
+pub returns-clause-small : goal.returns-clause-small
+returns-clause-small c = λ i h. c.loop-i.invariant.small i (omega arith)
+
+pub returns-clause-signs : goal.returns-clause-signs
+returns-clause-signs c = λ i h. c.loop-i.invariant.signs i (omega arith)

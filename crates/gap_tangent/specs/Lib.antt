@@ -1,0 +1,4 @@
+pub mod Bounds
+pub mod Terms
+pub mod Prices
+pub mod Rows
