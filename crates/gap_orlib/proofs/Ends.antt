@@ -8,7 +8,7 @@ use Rattle.gap_orlib.specs.declared.fault.PortStop.TheVariants.{Fault, OutOfMemo
 use Rattle.gap_orlib.specs.declared.fault.PortKind.TheVariants.{Short, Count}
 use Rattle.gap_orlib.specs.Sheets.{Sheet, begun, count_told, whole_in}
 use Rattle.gap_orlib.specs.Ports.{limit, fault_at, placed, finished, port}
-use Rattle.gap_orlib.specs.States.{Going, State, going, stopped, no_memory, HasRead, IsStopped, Tells, with_last, end_of, over}
+use Rattle.gap_orlib.specs.States.{Going, State, going, stopped, no_memory, HasRead, IsStopped, answer_of, Tells, with_last, end_of, over}
 use Rattle.gap_orlib.specs.ReaderViews.{stands}
 use Rattle.gap_orlib.specs.Answers.{NextIs}
 use Rattle.gap_orlib.proofs.Histories.{read_on, end_told, over_stopped, over_no_memory}
@@ -80,3 +80,12 @@ pub end_count : (begin : ℕ) (tail : List ℕ) → 0 < length tail → None ≡
 unfolding count_told
 end_count begin [] h e = absurd (omega arith)
 end_count begin (x ∷ xs) h e = ap (λ (o : Option ℕ). finished (begin + length (x ∷ xs)) (placed begin (begun o))) (sym e)
+
+-- what a reader that stopped answers
+pub answer_stands : (begin : ℕ) (tail : List ℕ) (sheet : Option Sheet) (stop : PortStop) → answer_of (stands begin tail sheet (Some stop)) ≡ Err stop
+answer_stands begin tail sheet (Fault f) = refl
+answer_stands begin tail sheet OutOfMemory = refl
+
+pub answer_stopped : (begin : ℕ) (tail : List ℕ) (sheet : Option Sheet) (o : Option PortStop) (stop : PortStop) (s : State) → stands begin tail sheet o ≡ s → o ≡ Some stop → answer_of s ≡ Err stop
+answer_stopped begin tail sheet o stop s view is =
+    ap answer_of (sym view) ∙ ap (λ (o : Option PortStop). answer_of (stands begin tail sheet o)) is ∙ answer_stands begin tail sheet stop

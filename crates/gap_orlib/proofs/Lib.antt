@@ -9,4 +9,7 @@ pub mod PairLaws
 pub mod Items
 pub mod MarketFields
 pub mod Reading
+pub mod FaultLaws
+pub mod FaultFound
+pub mod FirstFault
 pub mod Words

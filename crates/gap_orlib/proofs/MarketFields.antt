@@ -155,7 +155,7 @@ not_false : (b : Bool) → not b ≡ false → b ≡ true
 not_false true e = refl
 not_false false e = absurd (differ (sym e))
 
-marked_by : (n i j : ℕ) (seen : Bool) → i < j → (nat_lt i j && not seen) ≡ false → seen ≡ true
+pub marked_by : (n i j : ℕ) (seen : Bool) → i < j → (nat_lt i j && not seen) ≡ false → seen ≡ true
 marked_by n i j seen h e = let t : nat_lt i j ≡ true = grind (arith, nat_tests) in not_false seen (let f : not seen ≡ false = rw t at e in f)
 
 all_marked : (n i j : ℕ) (seen : List Bool) → i < j → j < n → missing n seen ≡ None → slice_index_or seen (spot n i j) false ≡ true

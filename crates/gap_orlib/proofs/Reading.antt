@@ -77,6 +77,9 @@ triple_front ts more n t i j v p =
 value_here : (ts rest : List Token) (x : Token) (k : ℕ) (v : ℤ) → k ≡ length ts → IsValue (ts ++ x ∷ rest) k v → HasValue (numeral_of x.text) v
 value_here ts rest x k v e p = subst (λ (text : List ℕ). HasValue (numeral_of text) v) (text_here ts rest x k e) p
 
+pub option_nat : (a b : ℕ) → Some a ≡ Some b → a ≡ b
+option_nat a b e = cc
+
 -- a token is one number, and one value
 next_same : (i j : ℕ) → ◌≡◌ {A = Option ℕ} (Some (i + 1)) (Some (j + 1)) → i ≡ j
 next_same i j e = let f : i + 1 ≡ j + 1 = cc in omega arith
@@ -84,11 +87,11 @@ next_same i j e = let f : i + 1 ≡ j + 1 = cc in omega arith
 asset_same : (ts : List Token) (k n i j : ℕ) → IsAsset ts k n i → IsAsset ts k n j → i ≡ j
 asset_same ts k n i j a b = next_same i j (sym a.number ∙ b.number)
 
-value_same : (q : Result Rounded NumeralFault) (v w : ℤ) → HasValue q v → HasValue q w → v ≡ w
+pub value_same : (q : Result Rounded NumeralFault) (v w : ℤ) → HasValue q v → HasValue q w → v ≡ w
 value_same (Ok r) v w a b = sym a ∙ b
 value_same (Err e) v w a b = absurd a
 
-triple_same : (ts : List Token) (n t i j i' j' : ℕ) (v w : ℤ) → IsTriple ts n t i j v → IsTriple ts n t i' j' w → (i ≡ i') × (j ≡ j') × (v ≡ w)
+pub triple_same : (ts : List Token) (n t i j i' j' : ℕ) (v w : ℤ) → IsTriple ts n t i j v → IsTriple ts n t i' j' w → (i ≡ i') × (j ≡ j') × (v ≡ w)
 triple_same ts n t i j i' j' v w a b = (
   asset_same ts (triple_at n t) n i i' a.first b.first,
   asset_same ts (triple_at n t + 1) n j j' a.second b.second,
@@ -130,7 +133,7 @@ unfolding deviation_told
 takes_deviation s k (Ok r) d h size = taken_else (is_negative r.value) _ _ (ap is_negative h) (taken_if (is_unit_size r.value) _ _ (unit_true r.value (pos d) h size))
 takes_deviation s k (Err e) d h size = absurd h
 
-whole_within : (n i : ℕ) (o : Option ℕ) → o ≡ Some (i + 1) → i < n → within 1 n o ≡ Some (i + 1)
+pub whole_within : (n i : ℕ) (o : Option ℕ) → o ≡ Some (i + 1) → i < n → within 1 n o ≡ Some (i + 1)
 whole_within n i o e h =
     ap (within 1 n) e ∙ (let low : nat_le 1 (i + 1) ≡ true = grind (arith, nat_tests) in let high : nat_le (i + 1) n ≡ true = grind (arith, nat_tests) in
     let f : within 1 n (Some (i + 1)) ≡ Some (i + 1) = rw (low, high) refl in f)
@@ -239,10 +242,7 @@ begun_with n o e p q =
     let f : begun (within 2 256 (Some n)) ≡ Ok (fresh_sheet n) = rw (low, high) refl in f)
 
 counts_same : (ts more : List Token) (s : Sheet) (n : ℕ) → Says ts s → whole (text_at (ts ++ more) 0) ≡ Some n → s.market.assets ≡ n
-counts_same ts more s n h e = let f : Some s.market.assets ≡ Some n = sym h.core.count ∙ sym (ap whole (text_front ts more 0 h.core.some)) ∙ e in option_same s.market.assets n f
-  where
-    option_same : (a b : ℕ) → Some a ≡ Some b → a ≡ b
-    option_same a b e = cc
+counts_same ts more s n h e = let f : Some s.market.assets ≡ Some n = sym h.core.count ∙ sym (ap whole (text_front ts more 0 h.core.some)) ∙ e in option_nat s.market.assets n f
 
 read_told : (ts : List Token) (x : Token) (s : Sheet) (q : Result Sheet PortKind) → Says ts s → item_told s.next s x.text ≡ q → Taken q → Read (ts ++ x ∷ []) (placed x.place q)
 unfolding Read Taken
@@ -287,7 +287,7 @@ first_all (suc left) at p h =
     let e : p at ≡ false = h at (omega arith) (omega arith) in
     rw e (first_all left (at + 1) p (λ k a b. h k (omega arith) (omega arith)))
 
-marked_named : (ts : List Token) (s : Sheet) (t i j : ℕ) (v : ℤ) → Says ts s → IsTriple ts s.market.assets t i j v → i ≢ j → marks_of s (spot s.market.assets i j) ≡ true
+pub marked_named : (ts : List Token) (s : Sheet) (t i j : ℕ) (v : ℤ) → Says ts s → IsTriple ts s.market.assets t i j v → i ≢ j → marks_of s (spot s.market.assets i j) ≡ true
 marked_named ts s t i j v h a ne =
     let said : Said ts s.market.assets t (rho_of s.market) (marks_of s) = triples_said ts s.market.assets t (rho_of s.market) (marks_of s) h.core.triples a.ends in
     let d = triple_same ts s.market.assets t i j said.i said.j v (rho_of s.market said.i said.j) a said.triple in
@@ -306,7 +306,7 @@ not_missing n p seen i j h = ⊎_elim
     (λ l. let t : nat_lt i j ≡ false = grind (arith, nat_tests) in rw t refl)
     (cases_lt i j)
 
-spot_is : (n p : ℕ) → p / n < p % n → 0 < n → spot n (p / n) (p % n) ≡ p
+pub spot_is : (n p : ℕ) → p / n < p % n → 0 < n → spot n (p / n) (p % n) ≡ p
 spot_is n p h some =
     let a : min (p / n) (p % n) ≡ p / n = omega arith in
     let b : max (p / n) (p % n) ≡ p % n = omega arith in

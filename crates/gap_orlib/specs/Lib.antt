@@ -3,6 +3,7 @@ pub mod Sheets
 pub mod Ports
 pub mod States
 pub mod Fields
+pub mod Faults
 pub mod Answers
 pub mod Views
 pub mod ReaderViews

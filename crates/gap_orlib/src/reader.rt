@@ -4,10 +4,11 @@ ghost use Rattle.std.specs.Prelude.{◌≡◌, ◌≢◌, ◌↔◌, ℕ, ◌+�
 ghost use Rattle.gap_orlib.specs.Ports.{port, finished};
 ghost use Rattle.gap_base.specs.Markets.{MarketValue};
 ghost use Rattle.gap_orlib.specs.Fields.{IsMarketOf};
+ghost use Rattle.gap_orlib.specs.Faults.{IsFaultOf};
 ghost use Rattle.gap_orlib.specs.ReaderViews.{IsOn};
 ghost use Rattle.gap_orlib.specs.States.{HasRead, answer_of, IsStopped, Tells, no_memory, with_last};
 
-use crate::fault::{PortKind, PortStop};
+use crate::fault::{PortFault, PortKind, PortStop};
 use crate::step::{fault, read_piece};
 use crate::table::Table;
 use crate::whole::whole_in;
@@ -66,6 +67,7 @@ impl Reader {
     pub fn feed(&mut self, piece: &[u8]) -> Result<(), PortStop>
         ensures read { (fed : List ℕ) → HasRead self.old fed → HasRead self.new (fed ++ piece.now) }
         ensures answer { result ≡ answer_of self.new }
+        ensures decided { (fed more : List ℕ) (f : PortFault) → HasRead self.old fed → result ≡ Err (PortStop.Fault f) → port (fed ++ piece.now ++ more) ≡ Err f }
         ensures stuck { IsStopped self.old → self.new ≡ self.old }
     {
         match self.stop {
@@ -94,6 +96,7 @@ impl Reader {
         ensures market { (fed : List ℕ) → HasRead self fed → Tells result (port fed) }
         ensures words { (fed : List ℕ) → HasRead self fed → IfOk result (IsMarketOf fed) }
         ensures accepts { (fed : List ℕ) (m : MarketValue) → HasRead self fed → IsMarketOf fed m → IsOk result ⊎ (result ≡ Err PortStop.OutOfMemory) }
+        ensures faults { (fed : List ℕ) (f : PortFault) → HasRead self fed → result ≡ Err (PortStop.Fault f) → IsFaultOf fed f }
         ensures memory { (result ≡ Err PortStop.OutOfMemory) ↔ (self ≡ no_memory) }
     {
         let Reader {
@@ -141,7 +144,7 @@ fn end_of_sheet(begin: u64, tail: &[u8], size: u64, sheet: Table) -> Result<Mark
             Err(kind) => return fault(begin, kind),
         }
     }
-    match sheet.close(size) {
+    match sheet.close() {
         Ok(market) => Ok(market),
         Err(kind) => fault(size, kind),
     }

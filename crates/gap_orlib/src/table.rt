@@ -311,9 +311,9 @@ impl Table {
         }
     }
 
-    /// The market where the bytes end, `size` of them.
-    pub fn close(self, size: u64) -> Result<Market, PortKind>
-        ensures { Closes result size (closed_at self.next size self) }
+    /// The market where the bytes end, however many they are.
+    pub fn close(self) -> Result<Market, PortKind>
+        ensures { (size : ℕ) → Closes result size (closed_at self.next size self) }
     {
         let Wanted::First = self.next else {
             return Err(PortKind::Short);

@@ -1,5 +1,5 @@
 use Rattle.gap_orlib.proofs.Ends.{ends_stopped, ends_going}
-use Rattle.gap_orlib.proofs.Words.{told_in_words, words_are_told}
+use Rattle.gap_orlib.proofs.Words.{told_in_words, words_are_told, fault_told}
 use Rattle.std.proofs.Common.{Err}
 use Rattle.gap_orlib.proofs.reader.Reader.finish.Goals as goal
 
@@ -28,3 +28,14 @@ returns-clause-accepts c = λ fed m h w.
     words_are_told c.end.result fed m
     (ends_going c.self.inside.begin c.self.inside.tail.items c.self.inside.table c.self.inside.stop c.args.self fed c.end.result c.self.view_is c.in-None.is
     (rw c.as_slice.ensures.value at c.end.ensures.told) h) w
+
+pub returns-in-Some-clause-faults : goal.returns-in-Some-clause-faults
+returns-in-Some-clause-faults c = λ fed f h e.
+    fault_told (Err c.in-Some.stop) fed f
+    (ends_stopped c.self.inside.begin c.self.inside.tail.items c.self.inside.table c.self.inside.stop c.in-Some.stop c.args.self fed c.self.view_is c.in-Some.is h) e
+
+pub returns-clause-faults : goal.returns-clause-faults
+returns-clause-faults c = λ fed f h e.
+    fault_told c.end.result fed f
+    (ends_going c.self.inside.begin c.self.inside.tail.items c.self.inside.table c.self.inside.stop c.args.self fed c.end.result c.self.view_is c.in-None.is
+    (rw c.as_slice.ensures.value at c.end.ensures.told) h) e
