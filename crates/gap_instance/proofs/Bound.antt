@@ -1,10 +1,10 @@
 -- Bounds of the objective that hold for every list that meets the limits, from bounds of covariances and means.
-use Rattle.std.proofs.Common.{◌≡◌, ℕ, ◌+◌, ◌-◌, ◌*◌, ◌<◌, ◌≤◌, List, ℤ, pos, neg_ℤ, ◌+ℤ◌, ◌-ℤ◌, ◌*ℤ◌, ◌≤ℤ◌, refl, sym, ap, ◌∙◌, unsigned_abs, arith}
+use Rattle.std.proofs.Common.{◌≡◌, ℕ, ◌-◌, ◌*◌, ◌<◌, ◌≤◌, List, ℤ, pos, neg_ℤ, ◌-ℤ◌, ◌*ℤ◌, ◌≤ℤ◌, sym, ap, ◌∙◌, unsigned_abs, arith}
 use Rattle.std.proofs.Math.IntN.{*ℤ_comm}
 use Rattle.std.proofs.lemmas.Int.{ints}
 use Rattle.gap_base.specs.Sums.{sum_below}
 use Rattle.gap_base.specs.Lots.{lots_at}
-use Rattle.gap_base.specs.Markets.{MarketValue, IsMarket, mean_of}
+use Rattle.gap_base.specs.Markets.{mean_of}
 use native.Mathlib.Nat.{mul-le-mul}
 use Rattle.gap_base.proofs.Machine.{unsigned_abs-product_le}
 use Rattle.gap_base.proofs.Ring.{*ℤ_assoc, *ℤ-neg_ℤ, scaled_le, linear}

@@ -1,8 +1,8 @@
 -- Laws of the limits.
-use Rattle.std.proofs.Common.{◌≡◌, ℕ, zero, suc, ◌<◌, ◌≤◌, List, [], ◌∷◌, length, replicate, slice_index_or, pos, refl, arith}
+use Rattle.std.proofs.Common.{◌≡◌, ℕ, zero, suc, ◌<◌, ◌≤◌, List, [], ◌∷◌, length, replicate, slice_index_or, refl, arith}
 use Rattle.std.proofs.lemmas.List.{get_or-replicate, length-replicate}
 use Rattle.std.proofs.lemmas.Int.{ints}
-use Rattle.gap_instance.specs.Instances.{InstanceValue, AreBetween}
+use Rattle.gap_instance.specs.Instances.{InstanceValue, IsInstance, AreBetween}
 use Rattle.gap_instance.specs.Limits.{MeetsLimits, IsFirstBroken, TurnsTooMuch}
 use Rattle.gap_instance.specs.declared.keeps.Broken.{Broken}
 use Rattle.gap_instance.specs.declared.keeps.Broken.TheVariants.{Length, Lots, Held, Least, Greatest, Turnover}
@@ -28,6 +28,14 @@ AreBetween-replicate n low high v p q = record {
   most = λ i h. rw (get_or-replicate n i v 0 h) q;
 }
 
+-- n numbers that are all v, in low..high
+pub AreBetween-all : (n low high v : ℕ) (xs : List ℕ) → length xs ≡ n → ((i : ℕ) → i < n → slice_index_or xs i 0 ≡ v) → low ≤ v → v ≤ high → AreBetween n low high xs
+AreBetween-all n low high v xs size is p q = record {
+  count = size;
+  least = λ i h. rw (is i h) p;
+  most = λ i h. rw (is i h) q;
+}
+
 two_within : (P : ℕ → Type 0) (a b : ℕ) → P a → P b → (i : ℕ) → i < 2 → P (slice_index_or (a ∷ b ∷ []) i 0)
 two_within P a b p q zero h = p
 two_within P a b p q (suc zero) h = q
@@ -49,3 +57,11 @@ AreBetween-three low high a b c p q r u v w = record { count = refl; least = thr
 
 -- for lists of few numbers
 pub ruleset few_numbers = (AreBetween-two, AreBetween-three, AreBetween-replicate)
+
+-- the numbers of a list that meets the limits are at most 10000, so that its risk, return and objective can be taken
+pub AreBetween-meets : (I : InstanceValue) (x : List ℕ) → IsInstance I → MeetsLimits I x → AreBetween I.market.assets 0 10000 x
+AreBetween-meets I x known meets = record {
+  count = meets.assets_are;
+  least = λ i p. omega arith;
+  most = λ i p. let a = meets.greatest_kept i p in let b = known.limits_are.greatest_within.most i p in let c = known.limits_are.lots_most in omega arith;
+}

@@ -1,5 +1,5 @@
 -- Laws of covariances: sizes, and the same from either side.
-use Rattle.std.proofs.Common.{◌≡◌, ℕ, ◌*◌, ◌<◌, ◌≤◌, ℤ, pos, ◌*ℤ◌, refl, ap, ◌∙◌, unsigned_abs, arith}
+use Rattle.std.proofs.Common.{◌≡◌, ℕ, ◌*◌, ◌<◌, ◌≤◌, pos, ◌*ℤ◌, ap, ◌∙◌, unsigned_abs}
 use Rattle.std.proofs.Math.Nat.{mul_comm}
 use native.Mathlib.Nat.{mul-le-mul}
 use Rattle.gap_base.specs.Markets.{MarketValue, IsMarket, deviation_of, rho_of}

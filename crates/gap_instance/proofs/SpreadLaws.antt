@@ -1,5 +1,5 @@
 -- Laws of the equal spread, and of the number of held assets against the number of lots.
-use Rattle.std.proofs.Common.{◌≡◌, ℕ, zero, suc, ◌+◌, ◌-◌, ◌*◌, ◌/◌, ◌%◌, ◌<◌, ◌≤◌, min, Bool, true, false, cond, if◌then◌else◌, ◌==◌, List, length, slice_index_or, nat_lt, Option, None, Some, ℤ, pos, ◌+ℤ◌, ◌≤ℤ◌, ◌⊎◌, inl, inr, ⊎_elim, refl, sym, ap, ◌∙◌, arith}
+use Rattle.std.proofs.Common.{◌≡◌, ℕ, zero, suc, ◌+◌, ◌*◌, ◌/◌, ◌%◌, ◌<◌, ◌≤◌, min, cond, if◌then◌else◌, ◌==◌, List, length, slice_index_or, nat_lt, None, Some, pos, ◌+ℤ◌, ◌≤ℤ◌, ◌⊎◌, inl, inr, refl, sym, ap, ◌∙◌, arith}
 use Rattle.std.proofs.lemmas.Int.{ints}
 use Rattle.std.proofs.lemmas.Bool.{cases_eq, cases_lt}
 use Rattle.std.proofs.lemmas.Bool.Decides.{nat_tests}
@@ -8,7 +8,7 @@ use Rattle.gap_base.specs.Lots.{lots_at}
 use Rattle.gap_base.proofs.Ring.{if_same, if_other}
 use Rattle.gap_base.proofs.SumLaws.{sum_same, sum_split, sum_not_negative}
 use Rattle.gap_base.proofs.Counts.{count_same}
-use Rattle.gap_instance.specs.Instances.{InstanceValue, IsInstance}
+use Rattle.gap_instance.specs.Instances.{InstanceValue}
 use Rattle.gap_instance.specs.Limits.{MeetsLimits, sum_of, held_of}
 use Rattle.gap_instance.specs.Spreads.{spread_of}
 

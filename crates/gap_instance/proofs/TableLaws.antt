@@ -1,11 +1,11 @@
 -- Laws of the table of covariances.
-use Rattle.std.proofs.Common.{◌≡◌, ℕ, zero, ◌+◌, ◌*◌, ◌<◌, ◌≤◌, List, [], ◌∷◌, ◌++◌, length, ℤ, pos, ◌⊎◌, inl, inr, ⊎_elim, refl, sym, ap, ◌∙◌, arith, length-append}
+use Rattle.std.proofs.Common.{◌≡◌, ℕ, ◌+◌, ◌*◌, ◌<◌, ◌≤◌, List, [], ◌∷◌, ◌++◌, length, ℤ, pos, ◌⊎◌, inl, inr, sym, ap, ◌∙◌, arith, length-append}
 use Rattle.std.proofs.Math.ListN.{get_or-append}
 use Rattle.std.proofs.Math.Seq.{get_or-append_seam}
 use Rattle.std.proofs.lemmas.Bool.{cases_lt}
 use Rattle.std.proofs.lemmas.Nat.{mul-add-lt}
 use Rattle.gap_base.specs.Sums.{at}
-use Rattle.gap_base.specs.Markets.{MarketValue, IsMarket}
+use Rattle.gap_base.specs.Markets.{MarketValue}
 use Rattle.gap_base.proofs.MarketLaws.{place_row, place_column}
 use Rattle.gap_instance.specs.Objective.{cov_of}
 use Rattle.gap_instance.specs.Tables.{IsTableBefore, IsTable}

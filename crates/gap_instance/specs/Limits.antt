@@ -1,6 +1,6 @@
 -- When a list of lots meets the limits of an instance, and which limit is the first that it breaks.
 -- Source: the constraints of Chang, Meade, Beasley and Sharaiha, in whole lots; the turnover is own to portgap.
-use Rattle.std.specs.Prelude.{◌≡◌, ◌≢◌, ℕ, ◌<◌, ◌≤◌, List, length, slice_index_or, nat_lt, Option, ℤ, pos, ◌-ℤ◌, ◌≤ℤ◌, ◌<ℤ◌, Some}
+use Rattle.std.specs.Prelude.{◌≡◌, ◌≢◌, ℕ, ◌<◌, ◌≤◌, List, length, slice_index_or, nat_lt, ℤ, pos, ◌-ℤ◌, ◌≤ℤ◌, ◌<ℤ◌, Some}
 use Rattle.std.specs.Option.{ForSome}
 use Rattle.gap_base.specs.Lots.{lots_at}
 use Rattle.gap_base.specs.Sums.{sum_below, count_if, abs_z}

@@ -1,4 +1,4 @@
-use Rattle.std.proofs.Common.{rules, arith, sym, ◌∙◌, subst, ◌≡◌, ◌+◌, ◌*◌, ap, slice_index_or, pos, SFits, w64}
+use Rattle.std.proofs.Common.{rules, ◌∙◌, subst, ◌≡◌, ◌+◌, ◌*◌, ap, slice_index_or, pos, SFits, w64}
 use Rattle.std.proofs.lemmas.Int.{to_z-of_z}
 use Rattle.std.proofs.lemmas.List.{get_or_read}
 use Rattle.std.proofs.lemmas.Nat.{mul-add-lt}

@@ -1,6 +1,4 @@
-use Rattle.std.proofs.Common.{◌≡◌, true, arith}
-use Rattle.std.proofs.lemmas.Int.{ints}
-use Rattle.gap_instance.specs.Limits.{MeetsLimits, TurnsTooMuch}
+use Rattle.gap_instance.specs.Limits.{TurnsTooMuch}
 use Rattle.gap_instance.proofs.LimitLaws.{turned_not_kept}
 use Rattle.gap_instance.proofs.instance.Instance.keeps.Goals as goal
 
