@@ -6,3 +6,7 @@ pub mod Priced
 pub mod SettingLaws
 pub mod RowLaws
 pub mod SlopeLaws
+pub mod ThetaFrom
+pub mod EntryLaws
+pub mod CopyLaws
+pub mod ShownLaws

@@ -30,8 +30,8 @@ above_end c d v e h k = let p = product_not_negative (e +ℤ neg_ℤ v) (d *ℤ 
 pub bow_least : (c d a v e r : ℤ) → pos 0 ≤ℤ d → a ≤ℤ v → v ≤ℤ e → r ≤ℤ bow c d a → r ≤ℤ bow c d e → r ≤ℤ bow c d v
 bow_least c d a v e r s h k p q =
     by_lt_z c (d *ℤ (v +ℤ a))
-      (λ (l : c <ℤ (d *ℤ (v +ℤ a))). let g = scaled_le d (v +ℤ a) (e +ℤ v) s (omega (arith, ints)) in let t = above_end c d v e k (omega (arith, linear)) in omega (arith, linear))
-      (λ (l : (d *ℤ (v +ℤ a)) ≤ℤ c). let t = above_start c d a v h l in omega (arith, linear))
+    (λ (l : c <ℤ (d *ℤ (v +ℤ a))). let g = scaled_le d (v +ℤ a) (e +ℤ v) s (omega (arith, ints)) in let t = above_end c d v e k (omega (arith, linear)) in omega (arith, linear))
+    (λ (l : (d *ℤ (v +ℤ a)) ≤ℤ c). let t = above_start c d a v h l in omega (arith, linear))
 
 -- ---- on one side of the present lots the cost is a bow and a constant
 abs_above : (v b : ℤ) → b ≤ℤ v → abs_z (v -ℤ b) ≡ v +ℤ neg_ℤ b
@@ -63,6 +63,7 @@ piece_above c d t b a v e r s o h k p q =
   where
     shift_in : (r x y : ℤ) → r ≤ℤ (y +ℤ neg_ℤ x) → (r +ℤ x) ≤ℤ y
     shift_in r x y h = omega (arith, ints)
+
     shift_out : (r x y : ℤ) → (r +ℤ x) ≤ℤ y → r ≤ℤ (y +ℤ neg_ℤ x)
     shift_out r x y h = omega (arith, ints)
 
@@ -76,6 +77,7 @@ piece_below c d t b a v e r s o h k p q =
   where
     shift_in : (r x y : ℤ) → r ≤ℤ (y +ℤ x) → (r +ℤ neg_ℤ x) ≤ℤ y
     shift_in r x y h = omega (arith, ints)
+
     shift_out : (r x y : ℤ) → (r +ℤ neg_ℤ x) ≤ℤ y → r ≤ℤ (y +ℤ x)
     shift_out r x y h = omega (arith, ints)
 
@@ -83,38 +85,38 @@ piece_below c d t b a v e r s o h k p q =
 pub cost_least : (c d t b l u v r : ℤ) → pos 0 ≤ℤ d → l ≤ℤ v → v ≤ℤ u → r ≤ℤ asset_cost c d t b l → r ≤ℤ asset_cost c d t b u → (l <ℤ b → b <ℤ u → r ≤ℤ asset_cost c d t b b) → r ≤ℤ asset_cost c d t b v
 cost_least c d t b l u v r s h k p q m =
     by_lt_z l b
-      (λ (lb : l <ℤ b).
-        by_lt_z b u
-          (λ (bu : b <ℤ u).
-            by_lt_z v b
-              (λ (vb : v <ℤ b). piece_below c d t b l v b r s (omega (arith, ints)) h (omega (arith, ints)) p (m lb bu))
-              (λ (bv : b ≤ℤ v). piece_above c d t b b v u r s (omega (arith, ints)) bv k (m lb bu) q))
-          (λ (ub : u ≤ℤ b). piece_below c d t b l v u r s ub h k p q))
-      (λ (bl : b ≤ℤ l). piece_above c d t b l v u r s bl h k p q)
+    (λ (lb : l <ℤ b).
+    by_lt_z b u
+    (λ (bu : b <ℤ u).
+    by_lt_z v b
+    (λ (vb : v <ℤ b). piece_below c d t b l v b r s (omega (arith, ints)) h (omega (arith, ints)) p (m lb bu))
+    (λ (bv : b ≤ℤ v). piece_above c d t b b v u r s (omega (arith, ints)) bv k (m lb bu) q))
+    (λ (ub : u ≤ℤ b). piece_below c d t b l v u r s ub h k p q))
+    (λ (bl : b ≤ℤ l). piece_above c d t b l v u r s bl h k p q)
 
 -- ---- the least over a range, as code takes it
 pub between_three : (c d t : ℤ) (b l u : ℕ) (r : ℤ) → pos 0 ≤ℤ d → l ≤ u → l < b → b < u → r ≡ int_min (int_min (asset_cost c d t (pos b) (pos l)) (asset_cost c d t (pos b) (pos u))) (asset_cost c d t (pos b) (pos b)) → IsLeastBetween l u (λ v. asset_cost c d t (pos b) (pos v)) r
 between_three c d t b l u r s h p q e = record {
-    reached = reached_by (asset_cost c d t (pos b) (pos l)) (asset_cost c d t (pos b) (pos u)) (asset_cost c d t (pos b) (pos b)) refl refl refl;
-    below = λ v i j. cost_least c d t (pos b) (pos l) (pos u) (pos v) r s (omega (arith, ints)) (omega (arith, ints)) (omega (arith, ints, clamps)) (omega (arith, ints, clamps)) (λ k m. omega (arith, ints, clamps))
-  }
+  reached = reached_by (asset_cost c d t (pos b) (pos l)) (asset_cost c d t (pos b) (pos u)) (asset_cost c d t (pos b) (pos b)) refl refl refl;
+  below = λ v i j. cost_least c d t (pos b) (pos l) (pos u) (pos v) r s (omega (arith, ints)) (omega (arith, ints)) (omega (arith, ints, clamps)) (omega (arith, ints, clamps)) (λ k m. omega (arith, ints, clamps));
+}
   where
     reached_by : (x y z : ℤ) → asset_cost c d t (pos b) (pos l) ≡ x → asset_cost c d t (pos b) (pos u) ≡ y → asset_cost c d t (pos b) (pos b) ≡ z → (v : ℕ) × (l ≤ v) × (v ≤ u) × (asset_cost c d t (pos b) (pos v) ≡ r)
     reached_by x y z ex ey ez = by_lt_z x y
-      (λ (k : x <ℤ y). by_lt_z x z
+        (λ (k : x <ℤ y). by_lt_z x z
         (λ (m : x <ℤ z). (l, omega arith, h, omega (arith, ints, clamps)))
         (λ (m : z ≤ℤ x). (b, omega arith, omega arith, omega (arith, ints, clamps))))
-      (λ (k : y ≤ℤ x). by_lt_z y z
+        (λ (k : y ≤ℤ x). by_lt_z y z
         (λ (m : y <ℤ z). (u, h, omega arith, omega (arith, ints, clamps)))
         (λ (m : z ≤ℤ y). (b, omega arith, omega arith, omega (arith, ints, clamps))))
 
 pub between_two : (c d t : ℤ) (b l u : ℕ) (r : ℤ) → pos 0 ≤ℤ d → l ≤ u → (l < b → b < u → ⊥) → r ≡ int_min (asset_cost c d t (pos b) (pos l)) (asset_cost c d t (pos b) (pos u)) → IsLeastBetween l u (λ v. asset_cost c d t (pos b) (pos v)) r
 between_two c d t b l u r s h n e = record {
-    reached = reached_by (asset_cost c d t (pos b) (pos l)) (asset_cost c d t (pos b) (pos u)) refl refl;
-    below = λ v i j. cost_least c d t (pos b) (pos l) (pos u) (pos v) r s (omega (arith, ints)) (omega (arith, ints)) (omega (arith, ints, clamps)) (omega (arith, ints, clamps)) (λ k m. absurd (n (omega (arith, ints)) (omega (arith, ints))))
-  }
+  reached = reached_by (asset_cost c d t (pos b) (pos l)) (asset_cost c d t (pos b) (pos u)) refl refl;
+  below = λ v i j. cost_least c d t (pos b) (pos l) (pos u) (pos v) r s (omega (arith, ints)) (omega (arith, ints)) (omega (arith, ints, clamps)) (omega (arith, ints, clamps)) (λ k m. absurd (n (omega (arith, ints)) (omega (arith, ints))));
+}
   where
     reached_by : (x y : ℤ) → asset_cost c d t (pos b) (pos l) ≡ x → asset_cost c d t (pos b) (pos u) ≡ y → (v : ℕ) × (l ≤ v) × (v ≤ u) × (asset_cost c d t (pos b) (pos v) ≡ r)
     reached_by x y ex ey = by_lt_z x y
-      (λ (k : x <ℤ y). (l, omega arith, h, omega (arith, ints, clamps)))
-      (λ (k : y ≤ℤ x). (u, h, omega arith, omega (arith, ints, clamps)))
+        (λ (k : x <ℤ y). (l, omega arith, h, omega (arith, ints, clamps)))
+        (λ (k : y ≤ℤ x). (u, h, omega arith, omega (arith, ints, clamps)))

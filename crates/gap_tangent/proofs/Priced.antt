@@ -19,9 +19,9 @@ pub priced_from : (cell : Cell) (l b t : ℤ) (v : ℕ) (m c u : ℤ) (w : ℕ) 
 priced_from cell l b t v m c u w held out e f g h p q r s =
     let whole : IsPriced cell (λ k. asset_cost l b t (pos v) (pos k)) held out = record { held_is = p; out_is = q; held_small = omega arith; out_small = omega arith } in
     subst (λ (z : ℤ). IsPriced cell (λ k. asset_cost z c u (pos w) (pos k)) held out) e
-      (subst (λ (z : ℤ). IsPriced cell (λ k. asset_cost l z u (pos w) (pos k)) held out) f
-        (subst (λ (z : ℤ). IsPriced cell (λ k. asset_cost l b z (pos w) (pos k)) held out) g
-          (subst (λ (z : ℕ). IsPriced cell (λ k. asset_cost l b t (pos z) (pos k)) held out) h whole)))
+    (subst (λ (z : ℤ). IsPriced cell (λ k. asset_cost l z u (pos w) (pos k)) held out) f
+    (subst (λ (z : ℤ). IsPriced cell (λ k. asset_cost l b z (pos w) (pos k)) held out) g
+    (subst (λ (z : ℕ). IsPriced cell (λ k. asset_cost l b t (pos z) (pos k)) held out) h whole)))
 
 -- the costs are within the range of the choice of K
 pub held_within : (cells : List Cell) (g : ℕ → ℕ → ℤ) (held out : List ℤ) → length held ≡ length cells → ((k : ℕ) → k < length cells → IsPriced (cell_at cells k) (g k) (at held k) (at out k)) → (k : ℕ) → k < length held → unsigned_abs (at held k) ≤ most_cost

@@ -59,9 +59,9 @@ rows_none m y rows h = record { sums = λ i l. h i ∙ sym (sum_none (λ j. cov_
 
 pub rows_more : (m : MarketValue) (y : List ℕ) (j : ℕ) (old new : List ℤ) → IsMarket m → slice_index_or y j 0 ≤ 80000 → AreRowsBefore m y j old → ((i : ℕ) → i < m.assets → at new i ≡ at old i +ℤ cov_of m i j *ℤ lots_at y j) → AreRowsBefore m y (j + 1) new
 rows_more m y j old new is e before added = record {
-    sums = λ i l. added i l ∙ ap (λ z. z +ℤ cov_of m i j *ℤ lots_at y j) (before.sums i l) ∙ sym (sum_more j (λ k. cov_of m i k *ℤ lots_at y k));
-    small = λ i l. subst (λ (z : ℤ). unsigned_abs z ≤ (j + 1) * 80000000000000000000000) (sym (added i l)) (size_step j (at old i) (cov_of m i j *ℤ lots_at y j) (before.small i l) (product_small (cov_of m i j) (slice_index_or y j 0) (cov_of-size m is i j) e))
-  }
+  sums = λ i l. added i l ∙ ap (λ z. z +ℤ cov_of m i j *ℤ lots_at y j) (before.sums i l) ∙ sym (sum_more j (λ k. cov_of m i k *ℤ lots_at y k));
+  small = λ i l. subst (λ (z : ℤ). unsigned_abs z ≤ (j + 1) * 80000000000000000000000) (sym (added i l)) (size_step j (at old i) (cov_of m i j *ℤ lots_at y j) (before.small i l) (product_small (cov_of m i j) (slice_index_or y j 0) (cov_of-size m is i j) e));
+}
 
 -- ---- all columns
 term_size : (c : ℤ) (v : ℕ) → unsigned_abs c ≤ 1000000000000000000 → pos (unsigned_abs (c *ℤ pos v)) ≤ℤ (pos 1000000000000000000 *ℤ pos v)
@@ -80,9 +80,9 @@ row_size m y i is e h =
 
 pub rows_all : (I : InstanceValue) (y : List ℕ) (count : ℕ) (rows : List ℤ) → IsInstance I → IsPoint I y → count ≡ I.market.assets → AreRowsBefore I.market y count rows → AreRows I.market y rows
 rows_all I y count rows is p e before = record {
-    sums = λ i l. before.sums i l ∙ ap (λ n. sum_below n (λ j. cov_of I.market i j *ℤ lots_at y j)) e;
-    small = λ i l. subst (λ (z : ℤ). unsigned_abs z ≤ 80000000000000000000000) (sym (before.sums i l ∙ ap (λ n. sum_below n (λ j. cov_of I.market i j *ℤ lots_at y j)) e)) (row_size I.market y i is.market_is p.count (point_most I y is p))
-  }
+  sums = λ i l. before.sums i l ∙ ap (λ n. sum_below n (λ j. cov_of I.market i j *ℤ lots_at y j)) e;
+  small = λ i l. subst (λ (z : ℤ). unsigned_abs z ≤ 80000000000000000000000) (sym (before.sums i l ∙ ap (λ n. sum_below n (λ j. cov_of I.market i j *ℤ lots_at y j)) e)) (row_size I.market y i is.market_is p.count (point_most I y is p));
+}
 
 pub nothing_added : (a c : ℤ) (v : ℕ) → v ≡ 0 → a ≡ a +ℤ c *ℤ pos v
 nothing_added a c v e = let z = *ℤ-zero c in rw e (omega (arith, linear))

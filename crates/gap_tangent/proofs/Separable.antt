@@ -88,6 +88,7 @@ separable cells g h o f k t valid priced sums least = record { reached = reached
         let b = sum_le (length cells) (λ i. if ltb 0 (slice_index_or x i 0) then h i else o i) (λ i. g i (slice_index_or x i 0)) (λ i l. one_below (cell_at cells i) (g i) (h i) (o i) (slice_index_or x i 0) (valid.each i) (priced i l) (each i l)) in
         let c = sums x (sym e) in
         omega (arith, ints)
+
     reached_by : (z : ℕ → Bool) → IsChoice cells k z → total (length cells) h o z ≡ t → (x : List ℕ) × IsPick cells k x × (f x ≡ t)
     reached_by z choice e =
         let r = list_for (length cells) (λ i v. IsLotsFor (cell_at cells i) (g i) (if z i then h i else o i) (z i) v) (λ i l. lots_for (cell_at cells i) (g i) (h i) (o i) (z i) (valid.each i) (priced i l) (choice.allowed i l)) in

@@ -116,5 +116,6 @@ void_terms s slopes bends alpha tau x hs hb u =
   where
     void_term : (alpha tau v b : ℤ) → (((pos 0 +ℤ alpha) *ℤ v) -ℤ (pos 0 *ℤ (v *ℤ v))) +ℤ (tau *ℤ b) ≡ alpha *ℤ v +ℤ tau *ℤ b
     void_term alpha tau v b = let e : pos 0 +ℤ alpha ≡ alpha = omega (arith, ints) in let f = zero-*ℤ (v *ℤ v) in rw (e, f) (omega (arith, linear))
+
     join : (v w tn lp cs w1 t1 : ℤ) → v ≡ (w +ℤ tn) -ℤ lp → cs ≡ w1 +ℤ t1 → w1 ≡ w → t1 ≡ tn → v ≡ (pos 0 -ℤ lp) +ℤ cs
     join v w tn lp cs w1 t1 a b c d = omega (arith, linear)

@@ -76,7 +76,10 @@ fn reward_at(mv: &MeanVariance<'_>, i: u16) -> i128
     ensures value { result ≡ reward_of (setting_with mv.now.instance.now mv.now.shift.now mv.now.weight) i }
     ensures small { unsigned_abs result ≤ 1000000000000000000000000 }
 {
-    rewarded(reward_scale(mv.weight, mv.instance.lots()), mv.instance.mean(i))
+    rewarded(
+        reward_scale(mv.weight, mv.instance.lots()),
+        mv.instance.mean(i),
+    )
 }
 
 /// `16 p tilt`
@@ -116,7 +119,10 @@ pub(crate) fn slope(mv: &MeanVariance<'_>, y: &Eighths, rows: &[i128; 256], i: u
     ensures value { result ≡ slope_of (setting_with mv.now.instance.now mv.now.shift.now mv.now.weight) (lots_at y.now) i }
     ensures small { unsigned_abs result ≤ 130000000000000000000000000000 }
 {
-    less(steep(mv.weight.p, tilt_at(mv, y, rows, i)), often(reward_at(mv, i)))
+    less(
+        steep(mv.weight.p, tilt_at(mv, y, rows, i)),
+        often(reward_at(mv, i)),
+    )
 }
 
 /// `64 p d`

@@ -76,7 +76,15 @@ fn price_at(inst: &Instance, terms: &Terms, alpha: i128, tau: i128, i: u16) -> P
 }
 
 /// Writes for each cell the least cost of holding its asset, and the cost of not holding it.
-fn fill(inst: &Instance, part: &Part, terms: &Terms, alpha: i128, tau: i128, held: &mut [i128], out: &mut [i128])
+fn fill(
+    inst: &Instance,
+    part: &Part,
+    terms: &Terms,
+    alpha: i128,
+    tau: i128,
+    held: &mut [i128],
+    out: &mut [i128],
+)
     requires part_length { length part.now ≡ inst.now.market.assets }
     requires held_length { length held.old ≡ length part.now }
     requires out_length { length out.old ≡ length part.now }
@@ -95,7 +103,15 @@ fn fill(inst: &Instance, part: &Part, terms: &Terms, alpha: i128, tau: i128, hel
 }
 
 /// The least sum of the costs, with room for the costs of each cell.
-fn least_in(inst: &Instance, part: &Part, terms: &Terms, alpha: i128, tau: i128, held: &mut [i128], out: &mut [i128]) -> Option<i128>
+fn least_in(
+    inst: &Instance,
+    part: &Part,
+    terms: &Terms,
+    alpha: i128,
+    tau: i128,
+    held: &mut [i128],
+    out: &mut [i128],
+) -> Option<i128>
     requires part_length { length part.now ≡ inst.now.market.assets }
     requires held_length { length held.old ≡ length part.now }
     requires out_length { length out.old ≡ length part.now }
@@ -189,7 +205,13 @@ fn both_parts(fixed: i128, costs: i128) -> i128
 
 /// The least of the constant, less the price of the limits, and the sum of the costs, over the lists of the part that
 /// hold exactly K assets; None exactly where the count can't be met. No sum reaches 10^37. Costs O(N log N).
-pub(crate) fn least_lagrangian(inst: &Instance, part: &Part, terms: &Terms, alpha: i128, tau: i128) -> Option<i128>
+pub(crate) fn least_lagrangian(
+    inst: &Instance,
+    part: &Part,
+    terms: &Terms,
+    alpha: i128,
+    tau: i128,
+) -> Option<i128>
     requires part_length { length part.now ≡ inst.now.market.assets }
     requires small { AreSmall inst.now.market.assets terms.now.slopes terms.now.bends terms.now.constant }
     requires multipliers { AreMultipliers inst.now.turnover alpha tau }

@@ -27,7 +27,7 @@ add_to-requires c =
     simp to_z-of_z (record {
       there = omega arith;
       old = size_within c.args.j c.args.inst.now.market.assets (at c.loop-i.rows c.loop-i.i) (at c.args.rows.now c.loop-i.i) (c.loop-i.invariant.rest c.loop-i.i (omega arith)) (c.requires.small c.loop-i.i (omega arith)) c.requires.there (omega arith);
-      amount = c.times.ensures.small
+      amount = c.times.ensures.small;
     })
 
 pub returns : goal.returns

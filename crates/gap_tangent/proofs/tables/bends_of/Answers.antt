@@ -22,7 +22,7 @@ loop-i-preserved c =
       size = length-set c.loop-i.bends c.from-place.result c.bend-value.result ∙ inv.size;
       bends = table_more_at (λ k z. z ≡ bend_of s k) c.loop-i.bends i c.from-place.result c.bend-value.result e (omega arith) inv.bends c.bend-value.ensures.value;
       small = table_more_at (λ k z. unsigned_abs z ≤ 6400000000000000000000000) c.loop-i.bends i c.from-place.result c.bend-value.result e (omega arith) inv.small c.bend-value.ensures.small;
-      signs = table_more_at (λ k z. pos 0 ≤ℤ z) c.loop-i.bends i c.from-place.result c.bend-value.result e (omega arith) inv.signs c.bend-value.ensures.sign
+      signs = table_more_at (λ k z. pos 0 ≤ℤ z) c.loop-i.bends i c.from-place.result c.bend-value.result e (omega arith) inv.signs c.bend-value.ensures.sign;
     })
 
 pub returns-clause-bends : goal.returns-clause-bends

@@ -22,7 +22,7 @@ loop-i-preserved c =
     simp to_z-of_z (record {
       size = length-set c.loop-i.slopes c.from-place.result c.slope-value.result ∙ inv.size;
       slopes = table_more_at (λ k z. z ≡ slope_of s (lots_at c.args.y.now) k) c.loop-i.slopes i c.from-place.result c.slope-value.result e (omega arith) inv.slopes c.slope-value.ensures.value;
-      small = table_more_at (λ k z. unsigned_abs z ≤ 130000000000000000000000000000) c.loop-i.slopes i c.from-place.result c.slope-value.result e (omega arith) inv.small c.slope-value.ensures.small
+      small = table_more_at (λ k z. unsigned_abs z ≤ 130000000000000000000000000000) c.loop-i.slopes i c.from-place.result c.slope-value.result e (omega arith) inv.small c.slope-value.ensures.small;
     })
 
 pub returns-clause-slopes : goal.returns-clause-slopes

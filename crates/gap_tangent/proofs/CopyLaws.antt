@@ -1,0 +1,23 @@
+-- A list written place by place from another.
+
+use Rattle.std.proofs.Common.{◌≡◌, ℕ, zero, suc, ◌+◌, ◌<◌, ◌≤◌, List, [], ◌∷◌, length, replicate, slice_index_or, slice_set, ◌⊎◌, inl, inr, refl, sym, ap, ◌∙◌, subst, arith, length-set, get_or-set_same, get_or-set_other}
+use Rattle.std.proofs.lemmas.Bool.{cases_eq}
+use Rattle.std.proofs.lemmas.List.{ext_get_or, length-replicate}
+
+-- the first places of a list of n numbers are those of another
+pub record IsCopied (n : ℕ) (from : List ℕ) (i : ℕ) (to : List ℕ) : Type 0 where
+  pub count : length to ≡ n
+  pub same : (k : ℕ) → k < i → slice_index_or to k 0 ≡ slice_index_or from k 0
+
+pub copied_none : (n : ℕ) (from to : List ℕ) → length to ≡ n → IsCopied n from 0 to
+copied_none n from to e = record { count = e; same = λ k h. absurd (omega arith) }
+
+pub copied_more : (n : ℕ) (from : List ℕ) (i : ℕ) (to : List ℕ) (v : ℕ) → i < n → IsCopied n from i to → v ≡ slice_index_or from i 0 → IsCopied n from (i + 1) (slice_set to i v)
+copied_more n from i to v l before e = record { count = length-set to i v ∙ before.count; same = λ k h. same_by k h (cases_eq k i) }
+  where
+    same_by : (k : ℕ) → k < i + 1 → (k ≡ i) ⊎ (k ≡ i → ⊥) → slice_index_or (slice_set to i v) k 0 ≡ slice_index_or from k 0
+    same_by k h (inl q) = subst (λ (j : ℕ). slice_index_or (slice_set to i v) j 0 ≡ slice_index_or from j 0) (sym q) (get_or-set_same to i v 0 (let c = before.count in omega arith) ∙ e)
+    same_by k h (inr q) = get_or-set_other to i k v 0 q ∙ before.same k (omega (arith, q))
+
+pub copied_all : (n : ℕ) (from : List ℕ) (i : ℕ) (to : List ℕ) → i ≡ n → length from ≡ n → IsCopied n from i to → to ≡ from
+copied_all n from i to e f h = ext_get_or 0 to from (h.count ∙ sym f) (λ k l. h.same k (let c = h.count in omega arith))

@@ -1,0 +1,118 @@
+//! What each kind of leaf shows.
+
+ghost use Rattle.std.specs.Prelude.{◌≡◌, ◌*◌, ◌<◌, ◌≤◌, cond, sum_by};
+ghost use Rattle.gap_box.specs.Parts.{can_meet, IsWithin, root_cells};
+ghost use Rattle.gap_model.specs.declared.leaf.Entry.{Entry};
+ghost use Rattle.gap_model.specs.declared.shown.Shown.TheVariants.{Nothing, AtLeast, Empty};
+ghost use Rattle.gap_model.specs.Leaves.{eighths_at, is_zero, count_shows, void_shows, tangent_shows, sixty_fourth, AreEntries, AreMultipliers};
+ghost use Rattle.gap_model.specs.Theta.{theta, void_theta};
+ghost use Rattle.gap_tangent.specs.Bounds.{setting_with};
+
+use crate::entries::point_of;
+use crate::mean_variance::MeanVariance;
+use crate::thetas::{theta, void_theta};
+use gap_base::{Witness, ceil_div64};
+use gap_box::Part;
+use gap_model::{Entry, Shown};
+
+/// What the count shows: Empty where it can't be met.
+pub(crate) fn count_shown(mv: &MeanVariance<'_>, part: &Part) -> Shown
+    ensures { result ≡ count_shows (can_meet part.now mv.now.instance.now.held) }
+{
+    if part.count_possible(mv.instance.held()) {
+        Shown::Nothing
+    } else {
+        Shown::Empty
+    }
+}
+
+/// Is the third multiplier 0?
+fn is_zero(third: i128) -> bool
+    ensures { result ≡ is_zero third }
+{
+    third == 0
+}
+
+/// What a theta of the multipliers alone shows: Empty where it is above 0.
+fn void_of(theta: Option<i128>) -> Shown
+    ensures { result ≡ void_shows theta }
+{
+    match theta {
+        None => Shown::Empty,
+        Some(t) => { if 0 < t { Shown::Empty } else { Shown::Nothing } }
+    }
+}
+
+/// The 64th part of a theta, brought up to a whole number.
+fn bound_of(theta: i128) -> i128
+    ensures { result ≡ sixty_fourth theta }
+{
+    ceil_div64(theta)
+}
+
+/// What a theta shows: its 64th part, brought up to a whole number.
+fn tangent_of(theta: Option<i128>) -> Shown
+    ensures { result ≡ tangent_shows theta }
+{
+    match theta {
+        None => Shown::Empty,
+        Some(t) => Shown::AtLeast(bound_of(t)),
+    }
+}
+
+/// What a void leaf shows.
+pub(crate) fn void_shown(
+    mv: &MeanVariance<'_>,
+    part: &Part,
+    alpha: i128,
+    tau: i128,
+    third: i128,
+) -> Shown
+    requires within { IsWithin part.now (root_cells mv.now.instance.now.least mv.now.instance.now.greatest) }
+    requires multipliers { AreMultipliers mv.now.instance.now.turnover alpha tau }
+    ensures { result ≡ cond (is_zero third) (void_shows (void_theta (setting_with mv.now.instance.now mv.now.shift.now mv.now.weight) part.now alpha tau)) Nothing }
+{
+    if is_zero(third) {
+        void_of(void_theta(mv, part, alpha, tau))
+    } else {
+        Shown::Nothing
+    }
+}
+
+/// Theta at the point of the entries.
+fn theta_of(mv: &MeanVariance<'_>, part: &Part, y: &[Entry], alpha: i128, tau: i128) -> Option<i128>
+    requires within { IsWithin part.now (root_cells mv.now.instance.now.least mv.now.instance.now.greatest) }
+    requires entries { AreEntries mv.now.instance.now.market.assets y.now }
+    requires most { sum_by (λ (e : Entry). e.eighths) y.now ≤ 8 * mv.now.instance.now.lots }
+    requires multipliers { AreMultipliers mv.now.instance.now.turnover alpha tau }
+    ensures { result ≡ theta (setting_with mv.now.instance.now mv.now.shift.now mv.now.weight) part.now (eighths_at y.now) alpha tau }
+{
+    let w = Witness {
+        y: point_of(mv.instance.n(), y),
+        alpha,
+        tau,
+    };
+    theta(mv, part, &w)
+}
+
+/// What a tangent leaf shows.
+pub(crate) fn tangent_shown(
+    mv: &MeanVariance<'_>,
+    part: &Part,
+    y: &[Entry],
+    alpha: i128,
+    tau: i128,
+    third: i128,
+) -> Shown
+    requires within { IsWithin part.now (root_cells mv.now.instance.now.least mv.now.instance.now.greatest) }
+    requires entries { AreEntries mv.now.instance.now.market.assets y.now }
+    requires most { sum_by (λ (e : Entry). e.eighths) y.now ≤ 8 * mv.now.instance.now.lots }
+    requires multipliers { AreMultipliers mv.now.instance.now.turnover alpha tau }
+    ensures { result ≡ cond (is_zero third) (tangent_shows (theta (setting_with mv.now.instance.now mv.now.shift.now mv.now.weight) part.now (eighths_at y.now) alpha tau)) Nothing }
+{
+    if is_zero(third) {
+        tangent_of(theta_of(mv, part, y, alpha, tau))
+    } else {
+        Shown::Nothing
+    }
+}
