@@ -53,11 +53,11 @@ double_same n f g h = sum_same n (λ i. sum_below n (λ j. f i j)) (λ i. sum_be
 pub form_linear_left : (n : ℕ) (A : ℕ → ℕ → ℤ) (k l : ℤ) (a c w : ℕ → ℤ) → form n A (λ i. k *ℤ a i +ℤ l *ℤ c i) w ≡ k *ℤ form n A a w +ℤ l *ℤ form n A c w
 unfolding form
 form_linear_left n A k l a c w =
-  let e = double_same n (λ i j. A i j *ℤ (k *ℤ a i +ℤ l *ℤ c i) *ℤ w j) (λ i j. k *ℤ (A i j *ℤ a i *ℤ w j) +ℤ l *ℤ (A i j *ℤ c i *ℤ w j)) (λ i j p q. linear_term (A i j) k l (a i) (c i) (w j)) in
-  let f = double_add n (λ i j. k *ℤ (A i j *ℤ a i *ℤ w j)) (λ i j. l *ℤ (A i j *ℤ c i *ℤ w j)) in
-  let g = double_scale n k (λ i j. A i j *ℤ a i *ℤ w j) in
-  let h = double_scale n l (λ i j. A i j *ℤ c i *ℤ w j) in
-  omega (arith, linear)
+    let e = double_same n (λ i j. A i j *ℤ (k *ℤ a i +ℤ l *ℤ c i) *ℤ w j) (λ i j. k *ℤ (A i j *ℤ a i *ℤ w j) +ℤ l *ℤ (A i j *ℤ c i *ℤ w j)) (λ i j p q. linear_term (A i j) k l (a i) (c i) (w j)) in
+    let f = double_add n (λ i j. k *ℤ (A i j *ℤ a i *ℤ w j)) (λ i j. l *ℤ (A i j *ℤ c i *ℤ w j)) in
+    let g = double_scale n k (λ i j. A i j *ℤ a i *ℤ w j) in
+    let h = double_scale n l (λ i j. A i j *ℤ c i *ℤ w j) in
+    omega (arith, linear)
 
 -- and on the right
 right_term : (e k l a c v : ℤ) → e *ℤ v *ℤ (k *ℤ a +ℤ l *ℤ c) ≡ k *ℤ (e *ℤ v *ℤ a) +ℤ l *ℤ (e *ℤ v *ℤ c)
@@ -66,11 +66,11 @@ right_term e k l a c v = simp expand refl
 pub form_linear_right : (n : ℕ) (A : ℕ → ℕ → ℤ) (k l : ℤ) (v a c : ℕ → ℤ) → form n A v (λ j. k *ℤ a j +ℤ l *ℤ c j) ≡ k *ℤ form n A v a +ℤ l *ℤ form n A v c
 unfolding form
 form_linear_right n A k l v a c =
-  let e = double_same n (λ i j. A i j *ℤ v i *ℤ (k *ℤ a j +ℤ l *ℤ c j)) (λ i j. k *ℤ (A i j *ℤ v i *ℤ a j) +ℤ l *ℤ (A i j *ℤ v i *ℤ c j)) (λ i j p q. right_term (A i j) k l (a j) (c j) (v i)) in
-  let f = double_add n (λ i j. k *ℤ (A i j *ℤ v i *ℤ a j)) (λ i j. l *ℤ (A i j *ℤ v i *ℤ c j)) in
-  let g = double_scale n k (λ i j. A i j *ℤ v i *ℤ a j) in
-  let h = double_scale n l (λ i j. A i j *ℤ v i *ℤ c j) in
-  omega (arith, linear)
+    let e = double_same n (λ i j. A i j *ℤ v i *ℤ (k *ℤ a j +ℤ l *ℤ c j)) (λ i j. k *ℤ (A i j *ℤ v i *ℤ a j) +ℤ l *ℤ (A i j *ℤ v i *ℤ c j)) (λ i j p q. right_term (A i j) k l (a j) (c j) (v i)) in
+    let f = double_add n (λ i j. k *ℤ (A i j *ℤ v i *ℤ a j)) (λ i j. l *ℤ (A i j *ℤ v i *ℤ c j)) in
+    let g = double_scale n k (λ i j. A i j *ℤ v i *ℤ a j) in
+    let h = double_scale n l (λ i j. A i j *ℤ v i *ℤ c j) in
+    omega (arith, linear)
 
 -- the form of a sum of two matrices with a factor: s A = E + G gives s form A = form E + form G
 split_term : (s a e g v w : ℤ) → s *ℤ a ≡ e +ℤ g → s *ℤ (a *ℤ v *ℤ w) ≡ e *ℤ v *ℤ w +ℤ g *ℤ v *ℤ w
@@ -79,9 +79,9 @@ split_term s a e g v w h = let p : s *ℤ (a *ℤ v *ℤ w) ≡ (s *ℤ a) *ℤ 
 pub form_split : (n : ℕ) (s : ℤ) (A E G : ℕ → ℕ → ℤ) (v w : ℕ → ℤ) → ((i j : ℕ) → i < n → j < n → s *ℤ A i j ≡ E i j +ℤ G i j) → s *ℤ form n A v w ≡ form n E v w +ℤ form n G v w
 unfolding form
 form_split n s A E G v w h =
-  sym (double_scale n s (λ i j. A i j *ℤ v i *ℤ w j))
-  ∙ double_same n (λ i j. s *ℤ (A i j *ℤ v i *ℤ w j)) (λ i j. E i j *ℤ v i *ℤ w j +ℤ G i j *ℤ v i *ℤ w j) (λ i j p q. split_term s (A i j) (E i j) (G i j) (v i) (w j) (h i j p q))
-  ∙ double_add n (λ i j. E i j *ℤ v i *ℤ w j) (λ i j. G i j *ℤ v i *ℤ w j)
+    sym (double_scale n s (λ i j. A i j *ℤ v i *ℤ w j))
+    ∙ double_same n (λ i j. s *ℤ (A i j *ℤ v i *ℤ w j)) (λ i j. E i j *ℤ v i *ℤ w j +ℤ G i j *ℤ v i *ℤ w j) (λ i j p q. split_term s (A i j) (E i j) (G i j) (v i) (w j) (h i j p q))
+    ∙ double_add n (λ i j. E i j *ℤ v i *ℤ w j) (λ i j. G i j *ℤ v i *ℤ w j)
 
 -- R R' has squares for its form
 gram_term : (r q v w : ℤ) → r *ℤ q *ℤ v *ℤ w ≡ (r *ℤ v) *ℤ (q *ℤ w)
@@ -90,17 +90,17 @@ gram_term r q v w = simp expand refl
 gram_entry : (n : ℕ) (R : ℕ → ℕ → ℤ) (v w : ℕ → ℤ) (i j : ℕ) → gram n R i j *ℤ v i *ℤ w j ≡ sum_below n (λ k. (R i k *ℤ v i) *ℤ (R j k *ℤ w j))
 unfolding gram
 gram_entry n R v w i j =
-  ap (λ x. x *ℤ w j) (sym (sum-scale_right n (λ k. R i k *ℤ R j k) (v i)))
-  ∙ sym (sum-scale_right n (λ k. R i k *ℤ R j k *ℤ v i) (w j))
-  ∙ sum_same n (λ k. R i k *ℤ R j k *ℤ v i *ℤ w j) (λ k. (R i k *ℤ v i) *ℤ (R j k *ℤ w j)) (λ k l. gram_term (R i k) (R j k) (v i) (w j))
+    ap (λ x. x *ℤ w j) (sym (sum-scale_right n (λ k. R i k *ℤ R j k) (v i)))
+    ∙ sym (sum-scale_right n (λ k. R i k *ℤ R j k *ℤ v i) (w j))
+    ∙ sum_same n (λ k. R i k *ℤ R j k *ℤ v i *ℤ w j) (λ k. (R i k *ℤ v i) *ℤ (R j k *ℤ w j)) (λ k l. gram_term (R i k) (R j k) (v i) (w j))
 
 pub form_gram : (n : ℕ) (R : ℕ → ℕ → ℤ) (v w : ℕ → ℤ) → form n (gram n R) v w ≡ sum_below n (λ k. sum_below n (λ i. R i k *ℤ v i) *ℤ sum_below n (λ j. R j k *ℤ w j))
 unfolding form
 form_gram n R v w =
-  double_same n (λ i j. gram n R i j *ℤ v i *ℤ w j) (λ i j. sum_below n (λ k. (R i k *ℤ v i) *ℤ (R j k *ℤ w j))) (λ i j p q. gram_entry n R v w i j)
-  ∙ sum_same n (λ i. sum_below n (λ j. sum_below n (λ k. (R i k *ℤ v i) *ℤ (R j k *ℤ w j)))) (λ i. sum_below n (λ k. sum_below n (λ j. (R i k *ℤ v i) *ℤ (R j k *ℤ w j)))) (λ i l. sum-swap n n (λ j k. (R i k *ℤ v i) *ℤ (R j k *ℤ w j)))
-  ∙ sum-swap n n (λ i k. sum_below n (λ j. (R i k *ℤ v i) *ℤ (R j k *ℤ w j)))
-  ∙ sum_same n (λ k. sum_below n (λ i. sum_below n (λ j. (R i k *ℤ v i) *ℤ (R j k *ℤ w j)))) (λ k. sum_below n (λ i. R i k *ℤ v i) *ℤ sum_below n (λ j. R j k *ℤ w j)) (λ k l. sum-product n n (λ i. R i k *ℤ v i) (λ j. R j k *ℤ w j))
+    double_same n (λ i j. gram n R i j *ℤ v i *ℤ w j) (λ i j. sum_below n (λ k. (R i k *ℤ v i) *ℤ (R j k *ℤ w j))) (λ i j p q. gram_entry n R v w i j)
+    ∙ sum_same n (λ i. sum_below n (λ j. sum_below n (λ k. (R i k *ℤ v i) *ℤ (R j k *ℤ w j)))) (λ i. sum_below n (λ k. sum_below n (λ j. (R i k *ℤ v i) *ℤ (R j k *ℤ w j)))) (λ i l. sum-swap n n (λ j k. (R i k *ℤ v i) *ℤ (R j k *ℤ w j)))
+    ∙ sum-swap n n (λ i k. sum_below n (λ j. (R i k *ℤ v i) *ℤ (R j k *ℤ w j)))
+    ∙ sum_same n (λ k. sum_below n (λ i. sum_below n (λ j. (R i k *ℤ v i) *ℤ (R j k *ℤ w j)))) (λ k. sum_below n (λ i. R i k *ℤ v i) *ℤ sum_below n (λ j. R j k *ℤ w j)) (λ k l. sum-product n n (λ i. R i k *ℤ v i) (λ j. R j k *ℤ w j))
 
 pub semi_gram : (n : ℕ) (R : ℕ → ℕ → ℤ) (v : ℕ → ℤ) → pos 0 ≤ℤ form n (gram n R) v v
 semi_gram n R v = rw (form_gram n R v v) (sum_not_negative n (λ k. sum_below n (λ i. R i k *ℤ v i) *ℤ sum_below n (λ j. R j k *ℤ v j)) (λ k l. square_not_negative (sum_below n (λ i. R i k *ℤ v i))))

@@ -6,10 +6,9 @@ ghost use Rattle.gap_instance.specs.Objective.{cov_of};
 ghost use Rattle.gap_psd.specs.Forms.{others, gram, IsSemi};
 ghost use Rattle.gap_psd.specs.Shifts.{r_of, shifted, rest, IsDominantShift, IsFirstRow};
 
+use crate::Shift;
 use gap_base::Row;
 use gap_instance::Instance;
-
-use crate::Shift;
 
 /// The product of two entries of R.
 fn times(a: i64, b: i64) -> i128
@@ -97,7 +96,11 @@ fn off_size(inst: &Instance, shift: &Shift, i: u16, j: u16) -> i128
     ensures value { result ≡ (if j == i then pos 0 else abs_z (rest (cov_of inst.now.market) shift.now i j)) }
     ensures small { unsigned_abs result ≤ 1257000000000000000000000000000000 }
 {
-    if j == i { 0 } else { rest_at(inst, shift, i, j).abs() }
+    if j == i {
+        0
+    } else {
+        rest_at(inst, shift, i, j).abs()
+    }
 }
 
 /// The sum of the sizes of the entries of row `i` of E off the diagonal.

@@ -6,10 +6,9 @@ ghost use Rattle.gap_instance.specs.Objective.{cov_of};
 ghost use Rattle.gap_psd.specs.Forms.{form};
 ghost use Rattle.gap_psd.specs.Shifts.{shifted, IsDominantShift};
 
-use gap_instance::Instance;
-
 use crate::Shift;
 use crate::dominance::entry_at;
+use gap_instance::Instance;
 
 /// An entry times a number of the list.
 fn scaled(entry: i128, v: i64) -> i128

@@ -3,10 +3,9 @@
 ghost use Rattle.std.specs.Prelude.{◌≡◌, ℕ, ◌+◌, ◌*◌, ◌<◌, ◌≤◌, pos, ◌≤ℤ◌, IfOk, unsigned_abs};
 ghost use Rattle.gap_psd.specs.Shifts.{r_of, d_of, zero_shift, with_r, with_d, total_of, IsShift};
 
+use gap_base::OutOfMemory;
 use std::alloc::Global;
 use std::marker::Model;
-
-use gap_base::OutOfMemory;
 
 /// A lower triangular matrix R of whole numbers of a size of at most 10^15 and numbers D in 0..10^21, for 2 to 256
 /// assets. Places count from 0.
@@ -26,15 +25,15 @@ impl Model for Shift {
     ghost Value = { ShiftValue };
 
     ghost view = { λ a. record {
-        assets = a.assets;
-        factor = a.factor.items;
-        diagonal = a.diagonal.items
+      assets = a.assets;
+      factor = a.factor.items;
+      diagonal = a.diagonal.items;
     } };
 
     ghost invariant = { λ a. IsShift (record {
-        assets = a.assets;
-        factor = a.factor.items;
-        diagonal = a.diagonal.items
+      assets = a.assets;
+      factor = a.factor.items;
+      diagonal = a.diagonal.items;
     }) };
 }
 

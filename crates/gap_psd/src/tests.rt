@@ -3,13 +3,11 @@
 ghost use Rattle.std.specs.Prelude.{◌≡◌, ℕ, ◌<◌, ◌≤◌, length, slice_index_or, IfOk, unsigned_abs};
 ghost use Rattle.gap_instance.specs.Instances.{AreLimits};
 
-use std::alloc::Global;
-use std::test::Fail;
-
+use crate::{Shift, dominant, form};
 use gap_base::{Job, Lots, Market, OutOfMemory, Row, Weights};
 use gap_instance::Instance;
-
-use crate::{Shift, dominant, form};
+use std::alloc::Global;
+use std::test::Fail;
 
 fn ones(n: u16) -> Lots
     requires least { 2 ≤ n }

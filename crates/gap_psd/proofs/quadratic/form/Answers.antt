@@ -12,7 +12,7 @@ returns-clause-value c = let whole : c.loop-i.i ≡ c.args.shift.now.assets = om
 
 pub returns-clause-not_negative : goal.returns-clause-not_negative
 returns-clause-not_negative c = λ d.
-  let whole : c.loop-i.i ≡ c.args.shift.now.assets = omega arith in
-  let value = (rw whole at c.loop-i.invariant.sum_so_far) ∙ form_rows c.args.shift.now.assets (shifted (cov_of c.args.inst.now.market) c.args.shift.now) (at c.args.v.now) (at c.args.v.now) in
-  let m = c.n-i-end.ensures.instance.market_is in
-  rw value (semi_everywhere_of_shift (cov_of c.args.inst.now.market) c.args.shift.now (λ i j p q. cov_of-symmetric c.args.inst.now.market m i j (omega arith) (omega arith)) d (at c.args.v.now))
+    let whole : c.loop-i.i ≡ c.args.shift.now.assets = omega arith in
+    let value = (rw whole at c.loop-i.invariant.sum_so_far) ∙ form_rows c.args.shift.now.assets (shifted (cov_of c.args.inst.now.market) c.args.shift.now) (at c.args.v.now) (at c.args.v.now) in
+    let m = c.n-i-end.ensures.instance.market_is in
+    rw value (semi_everywhere_of_shift (cov_of c.args.inst.now.market) c.args.shift.now (λ i j p q. cov_of-symmetric c.args.inst.now.market m i j (omega arith) (omega arith)) d (at c.args.v.now))

@@ -7,4 +7,5 @@ use Rattle.gap_psd.proofs.quadratic.form.Given as goal
 abbrev pub invariant-loop-i : goal.invariant-loop-i
 invariant-loop-i l = record {
   sum_so_far : l.total ≡ sum_below l.i (λ i. sum_below l.shift.assets (λ j. shifted (cov_of l.inst.market) l.shift i j *ℤ at l.v j) *ℤ at l.v i);
-  small : unsigned_abs l.total ≤ l.i * 1640038400000000000000000000000000 }
+  small : unsigned_abs l.total ≤ l.i * 1640038400000000000000000000000000;
+}

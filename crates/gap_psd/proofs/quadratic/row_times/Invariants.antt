@@ -7,4 +7,5 @@ use Rattle.gap_psd.proofs.quadratic.row_times.Given as goal
 abbrev pub invariant-loop-j : goal.invariant-loop-j
 invariant-loop-j l = record {
   sum_so_far : l.sum ≡ sum_below l.j (λ j. shifted (cov_of l.inst.market) l.shift l.i j *ℤ at l.v j);
-  small : unsigned_abs l.sum ≤ l.j * 80080000000000000000000000 }
+  small : unsigned_abs l.sum ≤ l.j * 80080000000000000000000000;
+}

@@ -6,12 +6,12 @@ use Rattle.gap_psd.proofs.quadratic.scaled_row.Goals as goal
 
 pub returns-clause-value : goal.returns-clause-value
 returns-clause-value c =
-  let fits : FitsSigned w128 c.from.result = record { sfits = c.from.type_inv } in
-  let small : unsigned_abs c.from.result ≤ 80000 = omega (arith, ints) in
-  mul_is c.args.row c.from.result 20500480000000000000000000000 80000 c.ranges.row fits c.requires.first small (lit< tt) ∙ ap (λ z. c.args.row *ℤ z) (c.from.ensures ∙ to_z-of_z w64 c.args.v c.ranges.v)
+    let fits : FitsSigned w128 c.from.result = record { sfits = c.from.type_inv } in
+    let small : unsigned_abs c.from.result ≤ 80000 = omega (arith, ints) in
+    mul_is c.args.row c.from.result 20500480000000000000000000000 80000 c.ranges.row fits c.requires.first small (lit< tt) ∙ ap (λ z. c.args.row *ℤ z) (c.from.ensures ∙ to_z-of_z w64 c.args.v c.ranges.v)
 
 pub returns-clause-small : goal.returns-clause-small
 returns-clause-small c =
-  let fits : FitsSigned w128 c.from.result = record { sfits = c.from.type_inv } in
-  let small : unsigned_abs c.from.result ≤ 80000 = omega (arith, ints) in
-  mul_le c.args.row c.from.result 20500480000000000000000000000 80000 c.ranges.row fits c.requires.first small (lit< tt)
+    let fits : FitsSigned w128 c.from.result = record { sfits = c.from.type_inv } in
+    let small : unsigned_abs c.from.result ≤ 80000 = omega (arith, ints) in
+    mul_le c.args.row c.from.result 20500480000000000000000000000 80000 c.ranges.row fits c.requires.first small (lit< tt)

@@ -4,4 +4,5 @@ use Rattle.gap_psd.proofs.tests.ones.Given as goal
 abbrev pub invariant-loop-i : goal.invariant-loop-i
 invariant-loop-i l = record {
   count : length l.list ≡ l.n;
-  each : (k : ℕ) → k < l.i → slice_index_or l.list k 0 ≡ 1 }
+  each : (k : ℕ) → k < l.i → slice_index_or l.list k 0 ≡ 1;
+}

@@ -6,4 +6,5 @@ use Rattle.gap_psd.proofs.shift.Shift.total.Given as goal
 abbrev pub invariant-loop-i : goal.invariant-loop-i
 invariant-loop-i l = record {
   sum_so_far : l.sum ≡ sum_below l.i (d_of l.self);
-  small : unsigned_abs l.sum ≤ l.i * 1000000000000000000000 }
+  small : unsigned_abs l.sum ≤ l.i * 1000000000000000000000;
+}
