@@ -20,6 +20,8 @@ mod quick;
 mod reading;
 mod refusals;
 mod solve;
+#[cfg(test)]
+mod tests;
 mod words;
 
 use crate::quick::{refuse, run_quick};
