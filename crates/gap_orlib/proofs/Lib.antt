@@ -13,3 +13,4 @@ pub mod FaultLaws
 pub mod FaultFound
 pub mod FirstFault
 pub mod Words
+pub mod Fronts
