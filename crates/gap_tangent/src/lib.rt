@@ -19,3 +19,6 @@ pub use gap_base::{Eighths, Witness};
 pub use mean_variance::MeanVariance;
 pub use tangent::Tangent;
 pub use thetas::{theta, void_theta};
+
+#[cfg(test)]
+mod tests;
