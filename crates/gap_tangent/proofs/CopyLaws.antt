@@ -1,8 +1,8 @@
 -- A list written place by place from another.
 
-use Rattle.std.proofs.Common.{◌≡◌, ℕ, zero, suc, ◌+◌, ◌<◌, ◌≤◌, List, [], ◌∷◌, length, replicate, slice_index_or, slice_set, ◌⊎◌, inl, inr, refl, sym, ap, ◌∙◌, subst, arith, length-set, get_or-set_same, get_or-set_other}
+use Rattle.std.proofs.Common.{◌≡◌, ℕ, ◌+◌, ◌<◌, List, length, slice_index_or, slice_set, ◌⊎◌, inl, inr, sym, ◌∙◌, subst, arith, length-set, get_or-set_same, get_or-set_other}
 use Rattle.std.proofs.lemmas.Bool.{cases_eq}
-use Rattle.std.proofs.lemmas.List.{ext_get_or, length-replicate}
+use Rattle.std.proofs.lemmas.List.{ext_get_or}
 
 -- the first places of a list of n numbers are those of another
 pub record IsCopied (n : ℕ) (from : List ℕ) (i : ℕ) (to : List ℕ) : Type 0 where

@@ -1,12 +1,12 @@
 -- The list of eighths that entries give.
 
-use Rattle.std.proofs.Common.{◌≡◌, ℕ, zero, suc, ◌+◌, ◌-◌, ◌*◌, ◌<◌, ◌≤◌, ◌==◌, if◌then◌else◌, Bool, true, false, cond, eqb, List, [], ◌∷◌, length, drop, replicate, slice_get, slice_index_or, slice_set, sum, sum_by, Option, Some, None, ◌⊎◌, inl, inr, ℤ, pos, ◌+ℤ◌, ◌≤ℤ◌, refl, sym, ap, ◌∙◌, subst, arith}
+use Rattle.std.proofs.Common.{◌≡◌, ℕ, zero, suc, ◌*◌, ◌<◌, ◌≤◌, ◌==◌, if◌then◌else◌, Bool, true, false, cond, eqb, List, [], ◌∷◌, length, drop, replicate, slice_get, slice_set, sum_by, Some, ◌⊎◌, inl, inr, pos, ◌+ℤ◌, ◌≤ℤ◌, refl, sym, ap, ◌∙◌, arith}
 use Rattle.std.proofs.lemmas.Int.{ints}
 use Rattle.std.proofs.lemmas.Bool.{cases_eq, eq-eqb, ne_eqb, cond-true, cond-false}
 use Rattle.std.proofs.lemmas.List.Sums.{sum_by-cons}
 use Rattle.gap_base.specs.Sums.{sum_below, natural_at}
 use Rattle.gap_base.specs.Lots.{lots_at}
-use Rattle.gap_base.proofs.Ring.{linear, if_same, if_other}
+use Rattle.gap_base.proofs.Ring.{if_same, if_other}
 use Rattle.gap_base.proofs.SumLaws.{sum_same, sum_le, sum-add, sum_pick, sum-zero}
 use Rattle.gap_base.proofs.Lists.{natural_at-set, sum_places}
 use Rattle.gap_instance.specs.Instances.{InstanceValue}

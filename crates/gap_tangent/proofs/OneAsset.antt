@@ -1,12 +1,11 @@
 -- The least cost of one asset over a range is at an end of the range, or at the present lots between them, since the
 -- square enters with a negative sign.
 
-use Rattle.std.proofs.Common.{◌≡◌, ℕ, ◌+◌, ◌*◌, ◌<◌, ◌≤◌, ◌⊎◌, inl, inr, ℤ, pos, negsuc, ◌+ℤ◌, ◌-ℤ◌, ◌*ℤ◌, neg_ℤ, ◌≤ℤ◌, ◌<ℤ◌, unsigned_abs, refl, sym, ap, ◌∙◌, arith, subst}
+use Rattle.std.proofs.Common.{◌≡◌, ℕ, ◌<◌, ◌≤◌, ℤ, pos, ◌+ℤ◌, ◌-ℤ◌, ◌*ℤ◌, neg_ℤ, ◌≤ℤ◌, ◌<ℤ◌, refl, ap, ◌∙◌, arith}
 use Rattle.std.proofs.lemmas.Int.{ints, clamps, by_lt_z}
 use Rattle.std.specs.Int.{int_min}
-use Rattle.std.proofs.lemmas.Bool.{cases_lt}
 use Rattle.gap_base.specs.Sums.{abs_z}
-use Rattle.gap_base.proofs.Ring.{expand, pull, linear, product_not_negative, scaled_le, *ℤ-+ℤ, *ℤ-neg_ℤ}
+use Rattle.gap_base.proofs.Ring.{expand, linear, product_not_negative, scaled_le}
 use Rattle.gap_tangent.specs.Terms.{asset_cost, IsLeastBetween}
 
 -- ---- a line less a square

@@ -1,7 +1,6 @@
 -- What the costs of the cells say of the least over all choices.
 
-use Rattle.std.proofs.Common.{◌≡◌, ℕ, ◌+◌, ◌*◌, ◌<◌, ◌≤◌, ◌^◌, Bool, true, false, if◌then◌else◌, List, length, slice_index_or, ℤ, pos, ◌+ℤ◌, ◌*ℤ◌, unsigned_abs, refl, sym, ap, ◌∙◌, subst, arith}
-use Rattle.std.proofs.lemmas.Int.{ints}
+use Rattle.std.proofs.Common.{◌≡◌, ℕ, ◌*◌, ◌<◌, ◌≤◌, Bool, true, false, if◌then◌else◌, List, length, ℤ, pos, ◌+ℤ◌, unsigned_abs, sym, ap, ◌∙◌, subst, arith}
 use Rattle.gap_base.specs.Sums.{sum_below, at}
 use Rattle.gap_base.specs.Lots.{lots_at}
 use Rattle.gap_base.proofs.SumLaws.{unsigned_abs-sum}

@@ -1,10 +1,10 @@
 -- The least of a sum of costs of single assets over the lists of a part that hold exactly k assets, from the least cost
 -- of holding each asset and the least over all choices of k.
 
-use Rattle.std.proofs.Common.{◌≡◌, ℕ, zero, suc, ◌+◌, ◌*◌, ◌<◌, ◌≤◌, Bool, true, false, not, cond, if◌then◌else◌, ltb, leb, eqb, ◌&&◌, ◌||◌, List, [], ◌∷◌, length, slice_index_or, ◌⊎◌, inl, inr, ℤ, pos, ◌+ℤ◌, ◌-ℤ◌, ◌*ℤ◌, ◌≤ℤ◌, unsigned_abs, IsTrue, refl, sym, ap, ◌∙◌, arith, subst}
+use Rattle.std.proofs.Common.{◌≡◌, ℕ, zero, suc, ◌<◌, ◌≤◌, Bool, true, false, if◌then◌else◌, ltb, leb, eqb, ◌&&◌, ◌||◌, List, [], ◌∷◌, length, slice_index_or, ◌⊎◌, inl, inr, ℤ, ◌≤ℤ◌, refl, sym, ap, ◌∙◌, arith}
 use Rattle.std.proofs.lemmas.Int.{ints}
 use Rattle.std.proofs.lemmas.Bool.Decides.{nat_tests}
-use Rattle.std.proofs.lemmas.Bool.{and_parts, and_from, eqb-true, le-leb, leb-true, lt-ltb, le-ltb, or_cases, cases_Bool, cases_lt, cond-true}
+use Rattle.std.proofs.lemmas.Bool.{and_parts, and_from, eqb-true, le-leb, leb-true, lt-ltb, or_cases, cond-true}
 use Rattle.gap_base.specs.Sums.{sum_below, count_if}
 use Rattle.gap_base.proofs.SumLaws.{sum_le, sum_same}
 use Rattle.gap_base.proofs.Counts.{count_same}
@@ -12,11 +12,11 @@ use Rattle.gap_base.proofs.Lists.{count_places}
 use Rattle.gap_box.specs.declared.cell.Cell.{Cell}
 use Rattle.gap_box.specs.declared.cell.Cell.TheVariants.{Out, Held, Free}
 use Rattle.gap_box.specs.Cells.{IsCell, AreCells, in_cell}
-use Rattle.gap_box.specs.Parts.{in_part, held_count, IsPick}
+use Rattle.gap_box.specs.Parts.{held_count, IsPick}
 use Rattle.gap_relax.specs.Choices.{allows, cell_at, IsChoice, total, IsLeastChoice}
 use Rattle.gap_model.specs.Theta.{IsLeastPick}
 use Rattle.gap_model.proofs.LimitLaws.{in_part_from, in_part_length, in_part_at}
-use Rattle.gap_tangent.specs.Terms.{IsLeastBetween, IsHeldCost, IsPriced}
+use Rattle.gap_tangent.specs.Terms.{IsPriced}
 
 -- ---- one asset
 held_choice : (h o : ℤ) (v : ℕ) → (if ltb 0 (suc v) then h else o) ≡ h

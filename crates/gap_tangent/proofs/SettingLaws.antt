@@ -1,8 +1,8 @@
 -- A dominant shift of an instance and a weight make a setting of the tangent bound.
 
-use Rattle.std.proofs.Common.{◌≡◌, ℕ, ◌<◌, ◌≤◌, ◌==◌, if◌then◌else◌, List, length, ℤ, pos, ◌+ℤ◌, ◌*ℤ◌, ◌≤ℤ◌, refl, sym, ap, ◌∙◌, subst, arith}
+use Rattle.std.proofs.Common.{◌≡◌, ℕ, ◌≤◌, List, length, ℤ, pos, ◌*ℤ◌, ◌≤ℤ◌, refl, sym, ap, ◌∙◌, subst, arith}
 use Rattle.gap_base.specs.declared.weight.Weight.{Weight}
-use Rattle.gap_base.specs.Sums.{sum_below, at}
+use Rattle.gap_base.specs.Sums.{sum_below}
 use Rattle.gap_box.specs.declared.cell.Cell.{Cell}
 use Rattle.gap_box.specs.Parts.{IsWithin, root_cells}
 use Rattle.gap_box.proofs.PartLaws.{length-root}
@@ -10,7 +10,7 @@ use Rattle.gap_instance.specs.Instances.{InstanceValue, IsInstance}
 use Rattle.gap_instance.specs.Objective.{cov_of}
 use Rattle.gap_instance.proofs.ObjectiveLaws.{cov_of-symmetric}
 use Rattle.gap_psd.specs.Forms.{form, IsSymmetric}
-use Rattle.gap_psd.specs.Shifts.{ShiftValue, IsShift, d_of, shifted, IsDominantShift}
+use Rattle.gap_psd.specs.Shifts.{ShiftValue, IsShift, shifted, IsDominantShift}
 use Rattle.gap_psd.proofs.FormLaws.{form_is}
 use Rattle.gap_psd.proofs.ShiftLaws.{semi_everywhere_of_shift}
 use Rattle.gap_model.specs.Settings.{Setting, IsSetting, shifted_cov, product_of}

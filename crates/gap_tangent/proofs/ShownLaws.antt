@@ -1,6 +1,6 @@
 -- What code tells of the third multiplier and of the 64th part, and what leaves in range say.
 
-use Rattle.std.proofs.Common.{◌≡◌, ℕ, zero, suc, ◌+◌, ◌*◌, ◌<◌, ◌≤◌, Bool, true, false, ◌&&◌, cond, leb, List, sum_by, slice_index_or, eqb, length, Option, Some, None, is_some, not, IsNone, ◌↔◌, FitsSigned, of_z, ℤ, pos, negsuc, ◌*ℤ◌, ◌≤ℤ◌, refl, sym, ap, ◌∙◌, arith}
+use Rattle.std.proofs.Common.{◌≡◌, ℕ, zero, suc, ◌*◌, ◌≤◌, Bool, true, ◌&&◌, leb, List, sum_by, eqb, length, Option, Some, None, is_some, not, IsNone, ◌↔◌, FitsSigned, of_z, ℤ, pos, negsuc, ◌*ℤ◌, ◌≤ℤ◌, refl, sym, ◌∙◌, arith}
 use Rattle.std.proofs.lemmas.Int.{ints}
 use Rattle.std.proofs.lemmas.Bool.{and_parts, leb-true, eq-eqb, ne_eqb, false_from_ne_true, true≢false, not-true, not-false}
 use Rattle.std.specs.Int.{w128}

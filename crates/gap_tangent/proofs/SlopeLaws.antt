@@ -1,6 +1,6 @@
 -- Slopes from the rows of covariances.
 
-use Rattle.std.proofs.Common.{◌≡◌, ℕ, ◌+◌, ◌*◌, ◌<◌, ◌≤◌, ◌==◌, if◌then◌else◌, List, slice_index_or, ◌⊎◌, inl, inr, ℤ, pos, ◌+ℤ◌, ◌*ℤ◌, neg_ℤ, refl, sym, ap, ◌∙◌, arith}
+use Rattle.std.proofs.Common.{◌≡◌, ℕ, ◌<◌, ◌==◌, if◌then◌else◌, List, ◌⊎◌, inl, inr, ℤ, pos, ◌+ℤ◌, ◌*ℤ◌, sym, ap, ◌∙◌}
 use Rattle.std.proofs.Math.IntN.{zero-*ℤ}
 use Rattle.std.proofs.lemmas.Bool.{cases_eq}
 use Rattle.gap_base.specs.Sums.{sum_below, at}
@@ -8,7 +8,7 @@ use Rattle.gap_base.specs.Lots.{lots_at}
 use Rattle.gap_base.proofs.Ring.{+ℤ-*ℤ, if_same, if_other}
 use Rattle.gap_base.proofs.SumLaws.{sum_same, sum-add, sum_pick}
 use Rattle.gap_instance.specs.Objective.{cov_of}
-use Rattle.gap_model.specs.Settings.{Setting, shifted_cov, product_of}
+use Rattle.gap_model.specs.Settings.{Setting, shifted_cov}
 use Rattle.gap_tangent.specs.Rows.{AreRows}
 use Rattle.gap_tangent.specs.Terms.{tilt_of}
 use Rattle.gap_tangent.proofs.TermLaws.{tilt_is}

@@ -1,6 +1,6 @@
 -- What a loop that writes a table place by place knows of it.
 
-use Rattle.std.proofs.Common.{◌≡◌, ℕ, ◌+◌, ◌<◌, ◌≤◌, List, length, set, slice_set, ◌⊎◌, inl, inr, ℤ, pos, refl, sym, subst, arith, get_or-set_same, get_or-set_other}
+use Rattle.std.proofs.Common.{◌≡◌, ℕ, ◌+◌, ◌<◌, List, length, slice_set, ◌⊎◌, inl, inr, ℤ, pos, sym, subst, arith, get_or-set_same, get_or-set_other}
 use Rattle.std.proofs.lemmas.Bool.{cases_eq}
 use Rattle.gap_base.specs.Sums.{at}
 

@@ -1,6 +1,6 @@
 -- The Lagrangian is a constant and the costs of the assets, one by one.
 
-use Rattle.std.proofs.Common.{◌≡◌, ℕ, ◌+◌, ◌-◌, ◌*◌, ◌<◌, ◌≤◌, List, slice_index_or, Option, Some, None, ℤ, pos, ◌+ℤ◌, ◌-ℤ◌, ◌*ℤ◌, neg_ℤ, refl, sym, ap, ◌∙◌, arith}
+use Rattle.std.proofs.Common.{◌≡◌, ℕ, ◌*◌, List, Option, Some, None, ℤ, pos, ◌+ℤ◌, ◌-ℤ◌, ◌*ℤ◌, neg_ℤ, refl, sym, ap, ◌∙◌, arith}
 use Rattle.std.proofs.Math.IntN.{zero-*ℤ}
 use Rattle.std.proofs.lemmas.Int.{ints}
 use Rattle.gap_base.specs.Sums.{sum_below, at, abs_z}
@@ -13,8 +13,8 @@ use Rattle.gap_instance.specs.Limits.{sum_of, turnover_of}
 use Rattle.gap_model.specs.Settings.{Setting, shifted_cov, product_of}
 use Rattle.gap_model.specs.Lagrangian.{reward_of, rewards_of, squares_of, turnover_term, lag, void_lag}
 use Rattle.gap_model.proofs.LagLaws.{lag_is, void_lag_is}
-use Rattle.gap_model.proofs.FormLaws.{double, double_same, product_symmetric}
-use Rattle.gap_tangent.specs.Terms.{tilt_of, slope_of, bend_of, asset_cost, costs_of, turnover_price, limits_price, AreTermsAt}
+use Rattle.gap_model.proofs.FormLaws.{double, product_symmetric}
+use Rattle.gap_tangent.specs.Terms.{tilt_of, slope_of, asset_cost, costs_of, turnover_price, limits_price, AreTermsAt}
 
 product_is : (s : Setting) (v w : ℕ → ℤ) → product_of s v w ≡ double s.instance.market.assets (λ i j. shifted_cov s i j *ℤ v i *ℤ w j)
 unfolding product_of

@@ -1,12 +1,11 @@
 -- Theta from the least of the constant and the costs.
 
-use Rattle.std.proofs.Common.{◌≡◌, ℕ, ◌+◌, ◌<◌, ◌≤◌, ◌↔◌, Bool, true, false, List, Option, Some, None, ℤ, pos, ◌+ℤ◌, ◌-ℤ◌, IfSome, IsNone, IsFalse, refl, sym, ap, ◌∙◌, subst, arith}
-use Rattle.std.proofs.lemmas.Int.{ints}
+use Rattle.std.proofs.Common.{◌≡◌, ℕ, ◌↔◌, List, Option, Some, None, ℤ, pos, ◌+ℤ◌, ◌-ℤ◌, IfSome, IsNone, IsFalse, refl, sym, ap, ◌∙◌}
 use Rattle.gap_base.specs.Sums.{at}
 use Rattle.gap_base.specs.Markets.{IsMarket}
 use Rattle.gap_box.specs.declared.cell.Cell.{Cell}
 use Rattle.gap_box.specs.Cells.{AreCells}
-use Rattle.gap_box.specs.Parts.{can_meet, IsPick}
+use Rattle.gap_box.specs.Parts.{can_meet}
 use Rattle.gap_model.specs.Settings.{Setting}
 use Rattle.gap_model.specs.Lagrangian.{lag, void_lag}
 use Rattle.gap_model.specs.Theta.{theta, void_theta, IsLeastPick}

@@ -1,6 +1,6 @@
 -- The products of the covariances with a tangent point. Own to portgap.
 
-use Rattle.std.specs.Prelude.{◌≡◌, ℕ, ◌*◌, ◌<◌, ◌≤◌, List, ℤ, pos, ◌+ℤ◌, ◌*ℤ◌, unsigned_abs}
+use Rattle.std.specs.Prelude.{◌≡◌, ℕ, ◌*◌, ◌<◌, ◌≤◌, List, ℤ, ◌*ℤ◌, unsigned_abs}
 use Rattle.gap_base.specs.Sums.{sum_below, at}
 use Rattle.gap_base.specs.Lots.{lots_at}
 use Rattle.gap_base.specs.Markets.{MarketValue}

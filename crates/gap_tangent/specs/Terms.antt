@@ -1,6 +1,6 @@
 -- The Lagrangian as a constant and a sum of costs of single assets. Own to portgap.
 
-use Rattle.std.specs.Prelude.{◌≡◌, ℕ, ◌+◌, ◌-◌, ◌*◌, ◌<◌, ◌≤◌, List, Option, Some, None, ℤ, pos, ◌+ℤ◌, ◌-ℤ◌, ◌*ℤ◌, neg_ℤ, ◌≤ℤ◌, unsigned_abs}
+use Rattle.std.specs.Prelude.{◌≡◌, ℕ, ◌*◌, ◌<◌, ◌≤◌, List, Option, Some, None, ℤ, pos, ◌+ℤ◌, ◌-ℤ◌, ◌*ℤ◌, neg_ℤ, ◌≤ℤ◌, unsigned_abs}
 use Rattle.gap_base.specs.Sums.{sum_below, at, abs_z}
 use Rattle.gap_base.specs.Lots.{lots_at}
 use Rattle.gap_box.specs.declared.cell.Cell.{Cell}

@@ -43,6 +43,13 @@ impl<'m> Tangent<'m> {
         }
     }
 
+    /// The point.
+    pub fn point(&self) -> &Eighths
+        ensures { result.now ≡ self.now.y }
+    {
+        &self.y
+    }
+
     /// Theta of the part under these multipliers: the least of the Lagrangian over the lists of the part that hold
     /// exactly K assets. None exactly where the count can't be met. Costs O(N log N) at most, O(N) on average, and no
     /// sum reaches 10^37.

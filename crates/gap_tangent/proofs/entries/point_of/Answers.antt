@@ -1,6 +1,5 @@
-use Rattle.std.proofs.Common.{◌≡◌, ℕ, suc, ◌+◌, ◌-◌, ◌<◌, ◌≤◌, List, length, Some, slice_get, sym, ap, ◌∙◌, subst, arith}
+use Rattle.std.proofs.Common.{◌≡◌, ℕ, suc, ◌-◌, List, length, sym, subst, arith}
 use Rattle.std.proofs.lemmas.List.{length-replicate}
-use Rattle.gap_model.specs.Leaves.{eighths_at}
 use Rattle.gap_tangent.proofs.EntryLaws.{IsFilled, filled_none, filled_more, zeros_lots}
 use Rattle.gap_tangent.proofs.entries.point_of.Goals as goal
 

@@ -1,4 +1,4 @@
-use Rattle.std.proofs.Common.{◌≡◌, ℕ, ◌+◌, ◌<◌, ◌≤◌, List, length, sym, ◌∙◌, subst, arith}
+use Rattle.std.proofs.Common.{ℕ, ◌+◌, List, sym, ◌∙◌, subst, arith}
 use Rattle.std.proofs.lemmas.List.{length-replicate}
 use Rattle.gap_tangent.proofs.CopyLaws.{IsCopied, copied_none, copied_more, copied_all}
 use Rattle.gap_tangent.proofs.lists.greatest_list.Goals as goal

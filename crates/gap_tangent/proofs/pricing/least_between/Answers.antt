@@ -1,7 +1,6 @@
-use Rattle.std.proofs.Common.{◌≡◌, ◌<◌, ◌≤◌, ℤ, pos, FitsSigned, to_z, of_z, arith}
+use Rattle.std.proofs.Common.{◌≡◌, ◌<◌, FitsSigned, arith}
 use Rattle.std.proofs.lemmas.Int.{to_z-of_z}
 use Rattle.std.specs.Int.{w128, int_min}
-use Rattle.gap_tangent.specs.Terms.{asset_cost, IsLeastBetween}
 use Rattle.gap_tangent.specs.Prices.{price_of}
 use Rattle.gap_tangent.proofs.OneAsset.{between_three, between_two}
 use Rattle.gap_tangent.proofs.pricing.least_between.Goals as goal

@@ -1,4 +1,4 @@
-use Rattle.std.proofs.Common.{rules, ◌*◌, ◌≤◌, ℕ, arith}
+use Rattle.std.proofs.Common.{◌*◌, ◌≤◌, ℕ, arith}
 use native.Mathlib.Nat.{mul-le-mul}
 use Rattle.gap_tangent.proofs.pricing.squared.Goals as goal
 

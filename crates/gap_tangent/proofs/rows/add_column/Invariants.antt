@@ -1,4 +1,4 @@
-use Rattle.std.proofs.Common.{ℕ, ◌<◌, pos, ◌*ℤ◌}
+use Rattle.std.proofs.Common.{pos, ◌*ℤ◌}
 use Rattle.gap_instance.specs.Objective.{cov_of}
 use Rattle.gap_tangent.proofs.RowLaws.{IsAdded}
 use Rattle.gap_tangent.proofs.rows.add_column.Given as goal

@@ -1,4 +1,4 @@
-use Rattle.std.proofs.Common.{◌≡◌, ℕ, ◌+◌, ◌*◌, ◌<◌, ◌≤◌, slice_index_or, ℤ, pos, ◌+ℤ◌, ◌*ℤ◌, unsigned_abs, subst, arith}
+use Rattle.std.proofs.Common.{◌≡◌, ℕ, pos, ◌+ℤ◌, ◌*ℤ◌, subst, arith}
 use Rattle.gap_base.specs.Sums.{at}
 use Rattle.gap_instance.specs.Objective.{cov_of}
 use Rattle.gap_tangent.proofs.RowLaws.{eighths_most, rows_none, rows_more, rows_all, zeros_at}

@@ -1,4 +1,4 @@
-use Rattle.std.proofs.Common.{◌≡◌, ℕ, ◌<◌, ℤ, FitsSigned, to_z, of_z, ◌∙◌, arith}
+use Rattle.std.proofs.Common.{◌∙◌, arith}
 use Rattle.std.proofs.lemmas.Int.{to_z-of_z}
 use Rattle.gap_base.specs.Lots.{lots_at}
 use Rattle.gap_model.specs.Leaves.{eighths_at}

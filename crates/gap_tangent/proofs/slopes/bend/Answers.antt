@@ -1,12 +1,6 @@
-use Rattle.std.proofs.Common.{◌≡◌, ℕ, ◌+◌, ◌-◌, ◌*◌, ◌<◌, ◌≤◌, slice_index_or, ℤ, pos, ◌+ℤ◌, ◌-ℤ◌, ◌*ℤ◌, FitsSigned, to_z, of_z, sym, ap, ◌∙◌, arith}
+use Rattle.std.proofs.Common.{◌*◌, pos, ◌*ℤ◌, FitsSigned, ap, ◌∙◌}
 use Rattle.std.proofs.lemmas.Int.{to_z-of_z}
-use Rattle.std.specs.Int.{w32, w128}
-use Rattle.gap_base.specs.Sums.{at}
-use Rattle.gap_base.specs.Markets.{mean_of}
-use Rattle.gap_psd.specs.Shifts.{d_of}
-use Rattle.gap_model.specs.Lagrangian.{reward_of}
-use Rattle.gap_tangent.specs.Bounds.{setting_with}
-use Rattle.gap_tangent.specs.Terms.{tilt_of}
+use Rattle.std.specs.Int.{w128}
 use Rattle.gap_tangent.proofs.slopes.bend.Goals as goal
 
 pub returns-clause-value : goal.returns-clause-value

@@ -1,7 +1,6 @@
-use Rattle.std.proofs.Common.{◌≡◌, ℕ, ◌+◌, ◌<◌, ◌≤◌, length, ℤ, unsigned_abs, FitsSigned, to_z, of_z, ◌∙◌, arith, length-set}
+use Rattle.std.proofs.Common.{◌≡◌, ◌≤◌, unsigned_abs, FitsSigned, ◌∙◌, arith, length-set}
 use Rattle.std.proofs.lemmas.Int.{to_z-of_z}
 use Rattle.std.specs.Int.{w128}
-use Rattle.gap_base.specs.Sums.{at}
 use Rattle.gap_base.specs.Lots.{lots_at}
 use Rattle.gap_tangent.specs.Bounds.{setting_with}
 use Rattle.gap_tangent.specs.Terms.{slope_of}

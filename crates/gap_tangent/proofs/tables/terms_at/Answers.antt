@@ -1,9 +1,8 @@
-use Rattle.std.proofs.Common.{◌≡◌, ℕ, ◌<◌, ◌≤◌, ℤ, pos, ◌*ℤ◌, neg_ℤ, unsigned_abs, FitsSigned, to_z, of_z, sym, ap, ◌∙◌, arith}
+use Rattle.std.proofs.Common.{pos, ◌*ℤ◌, neg_ℤ, FitsSigned, sym, ap, ◌∙◌}
 use Rattle.std.proofs.lemmas.Int.{to_z-of_z}
 use Rattle.std.specs.Int.{w128}
 use Rattle.gap_base.specs.Lots.{lots_at}
 use Rattle.gap_tangent.specs.Bounds.{setting_with}
-use Rattle.gap_tangent.specs.Terms.{AreTermsAt, AreSmall}
 use Rattle.gap_tangent.proofs.TermLaws.{tilts_give}
 use Rattle.gap_tangent.proofs.tables.terms_at.Goals as goal
 

@@ -1,4 +1,4 @@
-use Rattle.std.proofs.Common.{◌≡◌, ℕ, ◌+◌, ◌<◌, ◌≤◌, List, slice_index_or, ℤ, pos, ◌+ℤ◌, FitsSigned, to_z, of_z, subst, arith}
+use Rattle.std.proofs.Common.{◌≡◌, slice_index_or, ◌+ℤ◌, FitsSigned, subst, arith}
 use Rattle.std.proofs.lemmas.Int.{to_z-of_z}
 use Rattle.std.specs.Int.{w128}
 use Rattle.gap_base.specs.Sums.{at}

@@ -1,12 +1,11 @@
-use Rattle.std.proofs.Common.{◌≡◌, ℕ, ◌*◌, ◌<◌, ◌≤◌, ℤ, unsigned_abs, FitsSigned, to_z, of_z, sym, ◌∙◌, subst, arith}
+use Rattle.std.proofs.Common.{ℕ, ◌*◌, ◌≤◌, unsigned_abs, subst}
 use Rattle.std.proofs.lemmas.Int.{to_z-of_z}
 use Rattle.std.proofs.lemmas.Option.{IfSome_then}
-use Rattle.std.specs.Int.{w128}
 use Rattle.gap_base.specs.Sums.{at}
 use Rattle.gap_relax.specs.Choices.{IsLeastChoice}
 use Rattle.gap_model.specs.Theta.{IsLeastPick}
 use Rattle.gap_tangent.specs.Terms.{cost_of, costs_of}
-use Rattle.gap_tangent.proofs.Priced.{held_within, out_within, least_small, least_of_costs}
+use Rattle.gap_tangent.proofs.Priced.{least_small, least_of_costs}
 use Rattle.gap_tangent.proofs.terms.least_in.Goals as goal
 
 pub returns-clause-some : goal.returns-clause-some

@@ -1,4 +1,3 @@
-use Rattle.gap_model.specs.Limits.{meets_limits}
 use Rattle.gap_tangent.proofs.ShownLaws.{keeps_from}
 use Rattle.gap_tangent.proofs.node_bound.MeanVarianceNodeBound.keeps.Goals as goal
 

@@ -1,8 +1,7 @@
-use Rattle.std.proofs.Common.{◌≡◌, ℤ, FitsSigned, to_z, of_z, sym, ap, ◌∙◌, subst, true, rules}
+use Rattle.std.proofs.Common.{◌≡◌, FitsSigned, sym, ap, ◌∙◌, subst, true, rules}
 use Rattle.std.specs.Int.{w128}
 use Rattle.std.proofs.lemmas.Int.{to_z-of_z}
 use Rattle.gap_model.specs.declared.leaf.Leaf.{Leaf}
-use Rattle.gap_model.specs.declared.leaf.Leaf.TheVariants.{Count, Void, Tangent}
 use Rattle.gap_model.specs.Leaves.{in_range, shows}
 use Rattle.gap_tangent.specs.Bounds.{setting_with}
 use Rattle.gap_tangent.proofs.ShownLaws.{tangent_in_range}

@@ -1,4 +1,4 @@
-use Rattle.std.proofs.Common.{◌≡◌, ℕ, ◌≤◌, ◌∙◌, arith}
+use Rattle.std.proofs.Common.{◌∙◌, arith}
 use Rattle.gap_tangent.proofs.ShownLaws.{root_count}
 use Rattle.gap_tangent.proofs.node_bound.MeanVarianceNodeBound.value.Goals as goal
 

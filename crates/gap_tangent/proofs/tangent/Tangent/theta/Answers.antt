@@ -1,4 +1,3 @@
-use Rattle.std.proofs.Common.{FitsSigned, to_z, of_z}
 use Rattle.std.proofs.lemmas.Int.{to_z-of_z}
 use Rattle.gap_base.specs.Lots.{lots_at}
 use Rattle.gap_tangent.specs.Bounds.{setting_with}
