@@ -1,18 +1,15 @@
 -- The keys of an object, and the reading of a text.
-use Rattle.std.proofs.Common.{◌≡◌, ℕ, ◌+◌, ◌<◌, Bool, true, false, not, cond, nat_lt, min, List, [], ◌∷◌, length, map, Option, Some, None, Result, Ok, Err, refl, sym, ap, ◌∙◌, String, string_bytes}
-use Rattle.std.specs.List.{prefix_len, position_or_len}
+use Rattle.std.proofs.Common.{◌≡◌, ℕ, ◌+◌, Bool, true, false, not, cond, nat_lt, min, List, [], ◌∷◌, length, map, Option, Some, None, Err, refl, ap, String, string_bytes}
+use Rattle.std.specs.List.{position_or_len}
 use Rattle.std.specs.Str.{is_utf8, IsUtf8}
 use Rattle.std.specs.declared.alloc.Global.{Global}
-use Rattle.std.proofs.lemmas.List.{length-map}
 use Rattle.std.proofs.lemmas.Str.{IsUtf8-from_is_utf8, is_utf8-from_IsUtf8}
 use Rattle.serde_json.specs.Data.{Data, Members}
 use Rattle.serde_json.specs.Read.{read}
-use Rattle.serde_json.specs.View.{view, members_view}
+use Rattle.serde_json.specs.View.{members_view}
 use Rattle.serde_json.specs.declared.value.Value.{Value}
-use Rattle.gap_base.specs.declared.job.Job.{Job}
-use Rattle.gap_job.specs.declared.fault.JobFault.{JobFault}
 use Rattle.gap_job.specs.declared.fault.JobFault.TheVariants.{Unknown}
-use Rattle.gap_job.specs.Jobs.{is_known, keys_of, first_unknown, job_of, job_of_object, reading}
+use Rattle.gap_job.specs.Jobs.{keys_of, first_unknown, job_of, job_of_object, reading}
 
 -- a place that is looked for through a function
 pub position_or_len-map : {X Y : Type 0} (p : Y → Bool) (f : X → Y) (xs : List X) → position_or_len p (map f xs) ≡ position_or_len (λ x. p (f x)) xs

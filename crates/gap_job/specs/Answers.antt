@@ -3,7 +3,6 @@ use Rattle.std.specs.Prelude.{◌≡◌, Result, Ok, Err, Option, Some, None, �
 use Rattle.serde_json.specs.Data.{Data}
 use Rattle.serde_json.specs.View.{view}
 use Rattle.serde_json.specs.declared.value.Value.{Value}
-use Rattle.gap_base.specs.declared.job.Job.{Job}
 use Rattle.gap_job.specs.declared.fault.JobFault.{JobFault}
 use Rattle.gap_job.specs.declared.fault.JobFault.TheVariants.{NotJson}
 use Rattle.gap_job.specs.declared.fault.JobStop.{JobStop}

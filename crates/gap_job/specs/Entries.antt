@@ -1,10 +1,9 @@
 -- The lists of a job, entry by entry.
-use Rattle.std.specs.Prelude.{ℕ, ◌-◌, ◌&&◌, ◌||◌, ◌==◌, not, Bool, nat_le, nat_lt, Option, Some, None, Result, Ok, Err, option_and_then, if◌then◌else◌, List, [], ◌∷◌, ◌++◌, length, fold, replicate, slice_index_or, slice_set}
+use Rattle.std.specs.Prelude.{ℕ, ◌-◌, ◌&&◌, ◌==◌, not, Bool, nat_le, Option, Some, None, Result, Ok, Err, option_and_then, if◌then◌else◌, List, [], ◌∷◌, ◌++◌, length, fold, replicate, slice_index_or, slice_set}
 use Rattle.std.specs.Option.{is_some}
 use Rattle.serde_json.specs.Data.{Data}
 use Rattle.serde_json.specs.Find.{at, as_array}
 use Rattle.gap_base.specs.declared.weight.Weight.{Weight}
-use Rattle.gap_job.specs.declared.fault.Key.{Key}
 use Rattle.gap_job.specs.declared.fault.Key.TheVariants as key
 use Rattle.gap_job.specs.declared.fault.JobFault.{JobFault}
 use Rattle.gap_job.specs.declared.fault.JobFault.TheVariants.{Kind, Range, Asset}

@@ -1,8 +1,8 @@
 -- The job of the bytes of a file.
-use Rattle.std.specs.Prelude.{ℕ, ◌-◌, ◌^◌, ◌&&◌, ◌||◌, not, Bool, nat_le, nat_lt, min, Option, Some, None, Result, Ok, Err, if◌then◌else◌, List, [], ◌∷◌, length, codes}
+use Rattle.std.specs.Prelude.{ℕ, not, Bool, nat_lt, min, Option, Some, None, Result, Ok, Err, if◌then◌else◌, List, [], ◌∷◌, length, codes}
 use Rattle.std.specs.List.{position_or_len, list_any}
 use Rattle.std.specs.Str.{bytes_eq, is_utf8}
-use Rattle.serde_json.specs.Data.{Data, Members, no_members, member, object}
+use Rattle.serde_json.specs.Data.{Data, Members, no_members, member}
 use Rattle.serde_json.specs.Find.{get, as_object}
 use Rattle.serde_json.specs.Read.{read}
 use Rattle.gap_base.specs.declared.job.Job.{Job}

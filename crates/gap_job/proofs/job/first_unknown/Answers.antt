@@ -1,4 +1,4 @@
-use Rattle.std.proofs.Common.{rules, tests, not, string_bytes, nat_lt, length, ap}
+use Rattle.std.proofs.Common.{rules, tests, not, string_bytes}
 use Rattle.std.proofs.lemmas.Iterator.Consumers.{YieldsList-from_rest}
 use Rattle.std.proofs.lemmas.Iterator.Search.{position_from_yields_List}
 use Rattle.std.specs.BTreeMap.{keys}

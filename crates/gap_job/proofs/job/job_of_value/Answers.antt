@@ -1,4 +1,4 @@
-use Rattle.std.proofs.Common.{sym, ◌∙◌, length, map, string_bytes}
+use Rattle.std.proofs.Common.{sym, ◌∙◌, length, string_bytes}
 use Rattle.std.specs.BTreeMap.{keys}
 use Rattle.std.proofs.lemmas.List.{length-map}
 use Rattle.gap_job.proofs.Readings.{unknown_at, known_at}

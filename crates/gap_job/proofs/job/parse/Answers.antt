@@ -1,4 +1,4 @@
-use Rattle.std.proofs.Common.{rules, refl, sym, ◌∙◌}
+use Rattle.std.proofs.Common.{refl, ◌∙◌}
 use Rattle.gap_job.proofs.Readings.{reading_text, reading_none}
 use Rattle.gap_job.proofs.job.parse.Goals as goal
 

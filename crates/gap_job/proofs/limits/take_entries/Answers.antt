@@ -1,4 +1,4 @@
-use Rattle.std.proofs.Common.{rules, arith, refl, Err, Ok, ◌∙◌, sym}
+use Rattle.std.proofs.Common.{refl, Ok, ◌∙◌}
 use Rattle.gap_job.specs.Entries.{with_limit}
 use Rattle.gap_job.proofs.Walk.{goes_on, ends}
 use Rattle.gap_job.proofs.limits.take_entries.Goals as goal

@@ -1,4 +1,4 @@
-use Rattle.std.proofs.Common.{rules, arith, refl, Err, Ok, [], ◌∙◌, sym, ◌≡◌, ◌&&◌, nat_le, length, true}
+use Rattle.std.proofs.Common.{rules, refl, Ok, [], ◌≡◌, ◌&&◌, nat_le, length, true}
 use Rattle.gap_job.specs.Entries.{with_weight}
 use Rattle.gap_job.proofs.Walk.{goes_on, ends}
 use Rattle.gap_job.proofs.weights.take_entries.Goals as goal

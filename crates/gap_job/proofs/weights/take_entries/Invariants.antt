@@ -1,4 +1,4 @@
-use Rattle.std.proofs.Common.{◌≡◌, ℕ, [], length, map, take, fold, Ok}
+use Rattle.std.proofs.Common.{◌≡◌, [], length, map, take, fold, Ok}
 use Rattle.serde_json.specs.View.{view}
 use Rattle.gap_job.specs.Entries.{with_weight}
 use Rattle.gap_job.proofs.weights.take_entries.Given as goal
