@@ -1,10 +1,10 @@
 -- From one right outcome and what was written of its report to what a run has written of its market.
-use Rattle.std.proofs.Common.{◌≡◌, ℕ, ◌<◌, ◌≤◌, List, [], ◌∷◌, ◌++◌, append-nil, length, Option, Some, refl, sym, ap, ◌∙◌, subst, arith}
+use Rattle.std.proofs.Common.{◌≡◌, ℕ, ◌≤◌, List, [], ◌∷◌, ◌++◌, append-nil, Option, Some, refl, sym, ap, ◌∙◌, subst, arith}
 use Rattle.gap_base.specs.Markets.{MarketValue}
 use Rattle.gap_top.specs.declared.outcome.Outcome.{Outcome}
 use Rattle.gap_top.specs.declared.words.QuickWords.{QuickWords}
 use Rattle.gap_top.specs.Report.{report_of}
-use Rattle.gap_top.specs.Headline.{quick_instance, IsRight, IsPlain, WritesFront, Tells, TellsMarket, reports}
+use Rattle.gap_top.specs.Headline.{quick_instance, IsRight, IsPlain, WritesFront, TellsMarket, reports}
 
 -- the report of one outcome
 one_report : (quick : QuickWords) (outcome : Outcome) → report_of quick.p quick.q quick.lots 0 outcome ≡ reports quick (outcome ∷ [])

@@ -7,14 +7,14 @@ use Rattle.std.proofs.Math.Nat.{mul_assoc}
 use Rattle.std.proofs.Math.IntN.{*ℤ_comm}
 use Rattle.std.proofs.lemmas.List.FromFn.{length-map-range_with_len, get_or-map-range_with_len}
 use Rattle.gap_base.proofs.Ring.{*ℤ_assoc}
-use Rattle.gap_instance.specs.Instances.{InstanceValue, IsInstance, AreBetween}
+use Rattle.gap_instance.specs.Instances.{InstanceValue, IsInstance}
 use Rattle.gap_instance.specs.declared.keeps.Broken.{Broken}
 use Rattle.gap_instance.specs.Limits.{MeetsLimits}
 use Rattle.gap_instance.specs.Objective.{objective}
 use Rattle.gap_instance.specs.Spreads.{spread_of}
 use Rattle.gap_instance.proofs.Bound.{objective_at_least}
 use Rattle.gap_instance.proofs.SpreadLaws.{spread_meets_limits, held_le_lots}
-use Rattle.gap_top.specs.Plain.{equal_spread, IsUnlimited, IsPlainBound, plain_bound_of}
+use Rattle.gap_top.specs.Plain.{equal_spread, IsUnlimited, IsPlainBound}
 use Rattle.gap_top.specs.Headline.{IsRight}
 use Rattle.gap_top.specs.declared.outcome.Outcome.TheVariants.{Closed, Bounded}
 
@@ -60,14 +60,6 @@ plain_bound_holds I p q bound plain x meets =
     subst (λ (z : ℤ). z ≤ℤ objective I p q x)
     (sym (plain.value ∙ difference _ _ _ _ (risk_part p I.lots plain.covariance) (return_part ((q - p) * 1000000000000 * I.lots) I.lots plain.mean)))
     (objective_at_least I p q x plain.covariance plain.mean meets plain.least.below plain.greatest.above)
-
--- a list that meets the limits has numbers of at most 10000
-pub lots_between : (I : InstanceValue) (x : List ℕ) → IsInstance I → MeetsLimits I x → AreBetween I.market.assets 0 10000 x
-lots_between I x instance meets = record {
-  count = meets.assets_are;
-  least = λ i h. omega arith;
-  most = λ i h. let a = meets.greatest_kept i h in let b = instance.limits_are.greatest_within.most i h in let c = instance.limits_are.lots_most in omega arith;
-}
 
 none_not_some : (r : Option Broken) → IsNone r → is_some r ≡ true → ⊥
 none_not_some None e h = cc

@@ -1,5 +1,5 @@
 -- What a reader's answer says of the bytes that it was fed, and of those that follow.
-use Rattle.std.proofs.Common.{◌≡◌, ℕ, ◌+◌, ◌≤◌, ◌⊎◌, inl, inr, Bool, true, false, nat_le, List, [], ◌++◌, length, take, drop, refl, sym, ap, ◌∙◌, subst, arith, if◌then◌else◌, Option, Some, None, Result, Ok, Err}
+use Rattle.std.proofs.Common.{◌≡◌, ℕ, ◌+◌, ◌≤◌, inl, inr, Bool, true, false, nat_le, List, ◌++◌, length, take, drop, refl, sym, ap, ◌∙◌, subst, arith, if◌then◌else◌, Option, Some, Result, Ok, Err}
 use Rattle.std.proofs.lemmas.Bool.Decides.{nat_tests}
 use Rattle.std.proofs.Math.Seq.{take-add}
 use Rattle.std.proofs.lemmas.List.{length-take, length-take-le, length-drop, length-append, take-append-drop, take_all}
@@ -10,8 +10,7 @@ use Rattle.gap_top.specs.declared.reading.ReadStop.{ReadStop}
 use Rattle.gap_top.specs.declared.reading.ReadStop.TheVariants.{ReadFault, Refused, OutOfMemory}
 use Rattle.std.specs.Result.{IfErr}
 use Rattle.gap_orlib.specs.declared.fault.PortFault.{PortFault}
-use Rattle.gap_orlib.specs.declared.fault.PortStop.{PortStop}
-use Rattle.gap_orlib.specs.declared.fault.PortStop.TheVariants.{Fault, OutOfMemory as NoMemory}
+use Rattle.gap_orlib.specs.declared.fault.PortStop.TheVariants.{Fault}
 use Rattle.gap_orlib.specs.Sheets.{Sheet}
 use Rattle.gap_orlib.specs.Ports.{limit, fault_at, port}
 use Rattle.gap_orlib.specs.States.{Cut, cut, Going, State, going, stopped, no_memory, stated, state_of, HasRead, answer_of, end_of, over}

@@ -1,5 +1,5 @@
 -- The plain portfolio and the plain bound, which `quick` prints with a node budget of 0. Own to portgap.
-use Rattle.std.specs.Prelude.{◌≡◌, ℕ, ◌-◌, ◌*◌, ◌<◌, List, map, slice_index_or, ℤ, pos, ◌-ℤ◌, ◌*ℤ◌, ◌≤ℤ◌, Option, None}
+use Rattle.std.specs.Prelude.{◌≡◌, ℕ, ◌-◌, ◌*◌, ◌<◌, List, map, slice_index_or, ℤ, pos, ◌-ℤ◌, ◌*ℤ◌, ◌≤ℤ◌, None}
 use Rattle.std.specs.List.{range_with_len}
 use Rattle.gap_base.specs.Markets.{MarketValue, mean_of}
 use Rattle.gap_instance.specs.Instances.{InstanceValue}

@@ -1,4 +1,4 @@
-use Rattle.std.proofs.Common.{arith, FitsSigned, w32}
+use Rattle.std.proofs.Common.{FitsSigned, w32}
 use Rattle.std.proofs.lemmas.Int.{to_z-of_z}
 use Rattle.gap_base.specs.Markets.{mean_of}
 use Rattle.gap_top.proofs.LeastLaws.{greatest_more}

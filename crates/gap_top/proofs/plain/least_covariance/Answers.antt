@@ -1,4 +1,4 @@
-use Rattle.std.proofs.Common.{arith, FitsSigned, w64}
+use Rattle.std.proofs.Common.{FitsSigned, w64}
 use Rattle.std.proofs.lemmas.Int.{to_z-of_z}
 use Rattle.gap_top.proofs.LeastLaws.{rows_more, least_size}
 use Rattle.gap_top.proofs.plain.least_covariance.Goals as goal

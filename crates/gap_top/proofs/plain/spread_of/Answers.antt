@@ -1,4 +1,4 @@
-use Rattle.std.proofs.Common.{arith, rules}
+use Rattle.std.proofs.Common.{arith}
 use Rattle.std.proofs.lemmas.List.FromFn.{fill_by_all}
 use Rattle.gap_top.specs.Plain.{equal_spread}
 use Rattle.gap_instance.specs.Spreads.{spread_of}

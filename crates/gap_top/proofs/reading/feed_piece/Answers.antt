@@ -1,4 +1,4 @@
-use Rattle.std.proofs.Common.{arith, ◌++◌, sym, ◌∙◌}
+use Rattle.std.proofs.Common.{◌++◌, sym, ◌∙◌}
 use Rattle.gap_top.proofs.ReadingLaws.{refused_port, going_within}
 use Rattle.gap_top.proofs.reading.feed_piece.Goals as goal
 

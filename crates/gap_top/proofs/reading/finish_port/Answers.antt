@@ -1,4 +1,3 @@
-use Rattle.std.proofs.Common.{rules, subst}
 use Rattle.gap_top.proofs.ReadingLaws.{fed_whole}
 use Rattle.gap_top.proofs.reading.finish_port.Goals as goal
 

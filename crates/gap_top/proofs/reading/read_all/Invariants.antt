@@ -1,4 +1,4 @@
-use Rattle.std.proofs.Common.{◌≤◌, ℕ, List}
+use Rattle.std.proofs.Common.{◌≤◌}
 use Rattle.std.specs.Option.{ForSome}
 use Rattle.gap_files.specs.Outside.{bytes_of, SameElsewhere, SameEverywhere}
 use Rattle.gap_top.specs.Reading.{IsFed, WasFed}

@@ -3,11 +3,12 @@ use Rattle.std.specs.Prelude.{ℤ}
 use Rattle.std.specs.Int.{w128}
 use Rattle.std.proofs.lemmas.Int.{to_z-of_z}
 use Rattle.gap_top.specs.Plain.{IsPlainBound}
-use Rattle.gap_top.proofs.PlainLaws.{lots_between, right_closed, right_bounded, less_by_test, most_by_test}
+use Rattle.gap_instance.proofs.LimitLaws.{AreBetween-meets}
+use Rattle.gap_top.proofs.PlainLaws.{right_closed, right_bounded, less_by_test, most_by_test}
 use Rattle.gap_top.proofs.solve.bounded.Goals as goal
 
 pub value-reached-requires : goal.value-reached-requires
-value-reached-requires c = lots_between c.args.inst.now c.args.lots c.requires.instance c.requires.meets
+value-reached-requires c = AreBetween-meets c.args.inst.now c.args.lots c.requires.instance c.requires.meets
 
 pub returns-then-bound-reached-clause-right : goal.returns-then-bound-reached-clause-right
 returns-then-bound-reached-clause-right c =
