@@ -216,6 +216,18 @@ mod tests {
     }
 
     #[test]
+    fn takes_a_mebibyte_at_most(rt: HostRuntime) -> Result<(), Fail> {
+        let mut text = String::from_str(rt.alloc(), "")?;
+        for _ in 0..65_536u32 {
+            text.push_str("                ")?;
+        }
+        assert_eq!(rt; fault(rt.alloc(), text.as_str()), Some(JobFault::NotJson));
+        text.push_str(" ")?;
+        assert_eq!(rt; fault(rt.alloc(), text.as_str()), Some(JobFault::TooLong));
+        Ok(())
+    }
+
+    #[test]
     fn judges_numbers(rt: HostRuntime) {
         let alloc = rt.alloc();
         assert_eq!(rt;
