@@ -14,7 +14,7 @@ use Rattle.std.proofs.lemmas.Bool.Decides.{nat_tests}
 use Rattle.gap_base.proofs.Machine.{back_of, fits_of}
 use Rattle.gap_base.specs.Sums.{sum_below, count_if, at, AreWithin}
 use Rattle.gap_base.proofs.Ring.{linear, expand}
-use Rattle.gap_base.proofs.SumLaws.{sum_more, sum_same, sum_le, sum-add, sum-sub, sum-const, sum_all_zero, unsigned_abs-sum}
+use Rattle.gap_base.proofs.SumLaws.{sum_same, sum_le, sum-add, sum-sub, sum-const, sum_all_zero, unsigned_abs-sum}
 use Rattle.gap_base.proofs.Counts.{count_all, count_nowhere}
 use Rattle.gap_box.specs.declared.cell.Cell.{Cell}
 use Rattle.gap_box.specs.declared.cell.Cell.TheVariants.{Out, Held, Free}
@@ -229,40 +229,25 @@ least_is cells held_cost out_cost k start v xs le e f w =
         let m : count_if (length cells) (λ i. is_free (cell_at cells i) && y i) ≡ k - helds cells = omega arith in
         t ∙ ap (λ (j : ℕ). (start +ℤ (pos j *ℤ w.price)) -ℤ pos (sum_by (gain w.price) xs)) m ∙ sym w.value
 
--- a step of a sum of machine numbers that begins at a number
-pub sum_step : (start s x : ℤ) (f : ℕ → ℤ) (i : ℕ) → unsigned_abs x ≤ 60000000000000000000000000000000000 → i < 256 → s ≡ to_z w128 (of_z w128 start) +ℤ sum_below i f → unsigned_abs s ≤ 7680000000000000000000000000000000000 + i * 60000000000000000000000000000000000 → x ≡ f i → (to_z w128 (of_z w128 (s +ℤ to_z w128 (of_z w128 x))) ≡ to_z w128 (of_z w128 start) +ℤ sum_below (i + 1) f) × (unsigned_abs (to_z w128 (of_z w128 (s +ℤ to_z w128 (of_z w128 x)))) ≤ 7680000000000000000000000000000000000 + (i + 1) * 60000000000000000000000000000000000)
-sum_step start s x f i small few e h g =
-    let a = back_of x 60000000000000000000000000000000000 small (lit< tt) in
-    let t = grown s x i h small in
-    let b = back_of (s +ℤ x) 23040000000000000000000000000000000000 (omega arith) (lit< tt) in
-    let m = sum_more i f in
-    rw (a, b) (next _ _ _ _ _ _ e g m, t)
-  where
-    grown : (s x : ℤ) (i : ℕ) → unsigned_abs s ≤ 7680000000000000000000000000000000000 + i * 60000000000000000000000000000000000 → unsigned_abs x ≤ 60000000000000000000000000000000000 → unsigned_abs (s +ℤ x) ≤ 7680000000000000000000000000000000000 + (i + 1) * 60000000000000000000000000000000000
-    grown s x i h k = omega (arith, ints)
-
-    next : (s x start sum term more : ℤ) → s ≡ start +ℤ sum → x ≡ term → more ≡ sum +ℤ term → s +ℤ x ≡ start +ℤ more
-    next s x start sum term more e f g = omega (arith, linear)
-
 -- the same laws as the code meets them, where numbers were put into bits and read again
 
 pub with_none_as : (start sum : ℤ) (xs : List ℤ) (b m : ℕ) → m ≡ 0 → sum ≡ start → AreWithin b xs → IsWithLeast start xs m sum
 with_none_as start sum xs b m e f h = rw (e, f) (with_none start xs b h)
 
-pub last_fits : (a last : ℤ) → unsigned_abs a ≤ 23040000000000000000000000000000000000 → unsigned_abs last ≤ 60000000000000000000000000000000000 → FitsSigned w128 (to_z w128 (of_z w128 a) +ℤ to_z w128 (of_z w128 last))
+pub last_fits : (a last : ℤ) → unsigned_abs a ≤ 7680000000000000000000000000000000000 → unsigned_abs last ≤ 60000000000000000000000000000000000 → FitsSigned w128 (to_z w128 (of_z w128 a) +ℤ to_z w128 (of_z w128 last))
 last_fits a last h k =
-    let p = back_of a 23040000000000000000000000000000000000 h (lit< tt) in
+    let p = back_of a 7680000000000000000000000000000000000 h (lit< tt) in
     let q = back_of last 60000000000000000000000000000000000 k (lit< tt) in
     rw (p, q) (fits_of (a +ℤ last) 23100000000000000000000000000000000000 (both a last h k) (lit< tt))
   where
-    both : (a last : ℤ) → unsigned_abs a ≤ 23040000000000000000000000000000000000 → unsigned_abs last ≤ 60000000000000000000000000000000000 → unsigned_abs (a +ℤ last) ≤ 23100000000000000000000000000000000000
+    both : (a last : ℤ) → unsigned_abs a ≤ 7680000000000000000000000000000000000 → unsigned_abs last ≤ 60000000000000000000000000000000000 → unsigned_abs (a +ℤ last) ≤ 23100000000000000000000000000000000000
     both a last h k = omega (arith, ints)
 
-pub with_least_as : (start a : ℤ) (xs front back : List ℤ) (last : ℤ) (m : ℕ) → FitsSigned w128 start → unsigned_abs a ≤ 23040000000000000000000000000000000000 → unsigned_abs last ≤ 60000000000000000000000000000000000 → a ≡ to_z w128 (of_z w128 start) +ℤ sum_below (length front) (at front) → IsPermutation xs (front ++ last ∷ back) → m ≡ length front + 1 → IsSplitAround int_cmp front last back → IsWithLeast start xs m (to_z w128 (of_z w128 (to_z w128 (of_z w128 a) +ℤ to_z w128 (of_z w128 last))))
+pub with_least_as : (start a : ℤ) (xs front back : List ℤ) (last : ℤ) (m : ℕ) → FitsSigned w128 start → unsigned_abs a ≤ 7680000000000000000000000000000000000 → unsigned_abs last ≤ 60000000000000000000000000000000000 → a ≡ to_z w128 (of_z w128 start) +ℤ sum_below (length front) (at front) → IsPermutation xs (front ++ last ∷ back) → m ≡ length front + 1 → IsSplitAround int_cmp front last back → IsWithLeast start xs m (to_z w128 (of_z w128 (to_z w128 (of_z w128 a) +ℤ to_z w128 (of_z w128 last))))
 with_least_as start a xs front back last m fits h k e p l s =
     let f = last_fits a last h k in
     let t = to_z-of_z w128 (to_z w128 (of_z w128 a) +ℤ to_z w128 (of_z w128 last)) f in
-    let u = back_of a 23040000000000000000000000000000000000 h (lit< tt) in
+    let u = back_of a 7680000000000000000000000000000000000 h (lit< tt) in
     let v = back_of last 60000000000000000000000000000000000 k (lit< tt) in
     let w = to_z-of_z w128 start fits in
     let x : a ≡ start +ℤ sum_below (length front) (at front) = e ∙ ap (λ (z : ℤ). z +ℤ sum_below (length front) (at front)) w in

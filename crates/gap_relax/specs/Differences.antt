@@ -1,6 +1,6 @@
 -- What it costs more to hold the free cells than not to. Own to portgap.
 
-use Rattle.std.specs.Prelude.{◌≡◌, ℕ, zero, suc, ◌≤◌, not, if◌then◌else◌, List, [], ◌∷◌, ◌++◌, count_by, ℤ, pos, ◌+ℤ◌, ◌-ℤ◌, ◌*ℤ◌, int_lt, unsigned_abs}
+use Rattle.std.specs.Prelude.{◌≡◌, ℕ, zero, suc, ◌≤◌, not, if◌then◌else◌, List, [], ◌∷◌, ◌++◌, count_by, ℤ, pos, negsuc, neg_ℤ, ◌+ℤ◌, ◌-ℤ◌, ◌*ℤ◌, ◌≤ℤ◌, int_lt, unsigned_abs}
 use Rattle.std.specs.List.{sum_by}
 use Rattle.gap_base.specs.Sums.{at}
 use Rattle.gap_box.specs.declared.cell.Cell.{Cell}
@@ -31,3 +31,19 @@ pub record IsWithLeast (start : ℤ) (xs : List ℤ) (m : ℕ) (sum : ℤ) : Typ
   pub value : sum ≡ (start +ℤ (pos m *ℤ price)) -ℤ pos (sum_by (gain price) xs)
   pub least : count_by (λ x. int_lt x price) xs ≤ m
   pub most : m ≤ count_by (λ x. not (int_lt price x)) xs
+
+-- by how much a number lies above 0, else 0
+abbrev pub rise : ℤ → ℕ
+rise (pos n) = n
+rise (negsuc n) = 0
+
+-- by how much a number lies below 0, else 0
+abbrev pub fall : ℤ → ℕ
+fall (pos n) = 0
+fall (negsuc n) = suc n
+
+-- whichever numbers of a list are added to a start, the sum stays within a size: all that lie above 0 don't lead above it,
+-- and all that lie below 0 don't lead below it
+pub record StaysWithin (most : ℕ) (start : ℤ) (xs : List ℤ) : Type 0 where
+  pub above : (start +ℤ pos (sum_by rise xs)) ≤ℤ pos most
+  pub below : neg_ℤ (pos most) ≤ℤ (start -ℤ pos (sum_by fall xs))

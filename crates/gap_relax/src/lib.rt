@@ -6,7 +6,7 @@ ghost use Rattle.gap_base.specs.Sums.{sum_below, at, AreWithin};
 ghost use Rattle.gap_box.specs.Cells.{is_held, is_free};
 ghost use Rattle.gap_box.specs.Parts.{can_meet};
 ghost use Rattle.gap_relax.specs.Choices.{most_cost, IsLeastChoice};
-ghost use Rattle.gap_relax.specs.Differences.{start_cost, free_differences, IsWithLeast};
+ghost use Rattle.gap_relax.specs.Differences.{start_cost, free_differences, IsWithLeast, StaysWithin};
 
 use gap_box::{Cell, Part};
 
@@ -15,7 +15,7 @@ use gap_box::{Cell, Part};
 /// 3 * 10^34 in size. None exactly where no way holds exactly `k`, so where the count can't be met.
 ///
 /// It takes no memory, and O(N log N) time at most, O(N) on average: it starts from the way that holds no free cell
-/// and adds the least differences one by one, so that every sum on the way is that of some way to hold cells.
+/// and adds the least differences one by one, and no sum on the way is above 7.68 * 10^36 in size.
 pub fn least(part: &Part, held_cost: &[i128], out_cost: &[i128], k: u16) -> Option<i128>
     requires held_length { length held_cost.now ≡ length part.now }
     requires out_length { length out_cost.now ≡ length part.now }
@@ -124,6 +124,7 @@ fn add_least(start: i128, numbers: &mut [i128], count: usize) -> i128
     requires small { AreWithin (2 * most_cost) numbers.old }
     requires few { length numbers.old ≤ 256 }
     requires there { count ≤ length numbers.old }
+    requires steady { StaysWithin (256 * most_cost) start numbers.old }
     ensures { IsWithLeast start numbers.old count result }
 {
     if count == 0 {
@@ -133,14 +134,15 @@ fn add_least(start: i128, numbers: &mut [i128], count: usize) -> i128
     add_all(start, front) + *last
 }
 
-/// The sum of `start` and the numbers.
+/// The sum of `start` and the numbers. No sum on the way is above the size in which they stay.
 #[tactic(auto, using(gap_base::proofs::SumLaws::sum_steps))]
 fn add_all(start: i128, numbers: &[i128]) -> i128
     requires start_small { unsigned_abs start ≤ 256 * most_cost }
     requires small { AreWithin (2 * most_cost) numbers.now }
     requires few { length numbers.now ≤ 256 }
+    requires steady { StaysWithin (256 * most_cost) start numbers.now }
     ensures value { result ≡ start +ℤ sum_below (length numbers.now) (at numbers.now) }
-    ensures small { unsigned_abs result ≤ 256 * most_cost + 256 * (2 * most_cost) }
+    ensures small { unsigned_abs result ≤ 256 * most_cost }
 {
     let mut sum = start;
     for i in 0..numbers.len() {

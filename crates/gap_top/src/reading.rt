@@ -1,6 +1,6 @@
 //! Reading a port file through the outside, in pieces, up to its first fault.
 
-ghost use Rattle.std.specs.Prelude.{◌≡◌, ℕ, ◌+◌, ◌<◌, ◌≤◌, ◌++◌, List, [], length, IsOk, IfOk, IfErr, Ok, Err};
+ghost use Rattle.std.specs.Prelude.{◌≡◌, ℕ, ◌+◌, ◌-◌, ◌<◌, ◌≤◌, ◌++◌, min, List, [], length, IsOk, IfOk, IfErr, Ok, Err};
 ghost use Rattle.std.specs.Option.{ForSome};
 ghost use Rattle.gap_files.specs.Outside.{Rose, SameElsewhere, SameEverywhere, ReadsAt, bytes_of};
 ghost use Rattle.gap_orlib.specs.Ports.{port};
@@ -93,6 +93,7 @@ fn finish_port(reader: Reader) -> Result<Market, ReadStop>
 fn room_at(size: usize, at: u64) -> usize
     requires some { 0 < size }
     requires within { at ≤ LIMIT }
+    ensures value { result ≡ min size (LIMIT + 1 - at) }
     ensures some { 0 < result }
     ensures inside { result ≤ size }
 {

@@ -2,6 +2,7 @@ use Rattle.std.proofs.Common.{arith}
 use Rattle.std.proofs.lemmas.Int.{to_z-of_z}
 use Rattle.std.specs.Int.{w128}
 use Rattle.gap_relax.proofs.LeastLaws.{with_none_as, with_least_as, last_fits, sizes_parted}
+use Rattle.gap_relax.proofs.Within.{within_parted}
 use Rattle.gap_relax.proofs.add_least.Goals as goal
 
 pub returns-then-count-eq0 : goal.returns-then-count-eq0
@@ -11,6 +12,12 @@ pub add_all-requires-clause-small : goal.add_all-requires-clause-small
 add_all-requires-clause-small c =
     let r = c.select_nth_unstable-front.result in
     (sizes_parted 60000000000000000000000000000000000 c.args.numbers.now r.0.now r.2.now r.1.now c.requires.small c.select_nth_unstable-front.ensures.permutation).0
+
+pub add_all-requires-clause-steady : goal.add_all-requires-clause-steady
+add_all-requires-clause-steady c =
+    let r = c.select_nth_unstable-front.result in
+    let fit = c.ranges.start in
+    simp to_z-of_z (within_parted 7680000000000000000000000000000000000 c.args.start c.args.numbers.now r.0.now r.2.now r.1.now c.requires.steady c.select_nth_unstable-front.ensures.permutation)
 
 pub overflow_add-result : goal.overflow_add-result
 overflow_add-result c =
