@@ -7,3 +7,5 @@ pub mod ListLaws
 pub mod MarketLaws
 pub mod NumeralLaws
 pub mod NumeralParts
+pub mod Spelled
+pub mod Unspelled

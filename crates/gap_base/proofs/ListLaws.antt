@@ -1,6 +1,6 @@
 -- Laws of lists by place with a default, for the fixed arrays behind lots and eighths.
 
-use Rattle.std.proofs.Common.{ℕ, zero, suc, ◌<◌, List, [], ◌∷◌, take, replicate, slice_index_or, slice_set}
+use Rattle.std.proofs.Common.{ℕ, zero, suc, ◌<◌, List, [], ◌∷◌, take, replicate, slice_index_or, slice_set, arith}
 
 -- each number of the first n is below a bound where each number is
 pub small-take : (n b : ℕ) (xs : List ℕ) → 0 < b → ((k : ℕ) → slice_index_or xs k 0 < b) → (k : ℕ) → slice_index_or (take n xs) k 0 < b
@@ -9,11 +9,11 @@ small-take (suc n) b [] p h k = p
 small-take (suc n) b (x ∷ xs) p h zero = h 0
 small-take (suc n) b (x ∷ xs) p h (suc k) = small-take n b xs p (λ j. h (suc j)) k
 
--- a list of zeros has only numbers below a bound
-pub small-zeros : (n b : ℕ) → 0 < b → (k : ℕ) → slice_index_or (replicate n 0) k 0 < b
-small-zeros zero b p k = p
-small-zeros (suc n) b p zero = p
-small-zeros (suc n) b p (suc k) = small-zeros n b p k
+-- a list of equal numbers below a bound has only numbers below it
+pub small-filled : (n v b : ℕ) → v < b → (k : ℕ) → slice_index_or (replicate n v) k 0 < b
+small-filled zero v b p k = omega arith
+small-filled (suc n) v b p zero = p
+small-filled (suc n) v b p (suc k) = small-filled n v b p k
 
 -- writing a small number keeps all small
 pub small-set : (b : ℕ) (xs : List ℕ) (i v : ℕ) → v < b → ((k : ℕ) → slice_index_or xs k 0 < b) → (k : ℕ) → slice_index_or (slice_set xs i v) k 0 < b

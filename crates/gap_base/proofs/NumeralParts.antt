@@ -66,7 +66,7 @@ front_step : (p : ℕ → Bool) (x : ℕ) (xs : List ℕ) (b : Bool) → p x ≡
 front_step p x xs true e more = let one_more : 1 + prefix_len p xs ≡ suc (prefix_len p xs) = omega arith in rw (e, one_more, e) more
 front_step p x xs false e more = rw e refl
 
-front_digits : (p : ℕ → Bool) (text : List ℕ) → list_all p (take (prefix_len p text) text) ≡ true
+pub front_digits : (p : ℕ → Bool) (text : List ℕ) → list_all p (take (prefix_len p text) text) ≡ true
 front_digits p [] = refl
 front_digits p (x ∷ xs) = front_step p x xs (p x) refl (front_digits p xs)
 

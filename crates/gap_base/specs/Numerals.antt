@@ -3,6 +3,7 @@
 use Rattle.std.specs.Prelude.{ℕ, ℤ, pos, neg_ℤ, ◌+◌, ◌-◌, ◌*◌, ◌/◌, ◌%◌, ◌^◌, Bool, true, false, ◌≡◌, ◌==◌, ◌||◌, if◌then◌else◌, nat_le, nat_lt, List, [], ◌∷◌, ◌++◌, length, take_while, drop, fold, Option, Some, None, Result, Ok, Err}
 use Rattle.std.specs.List.{prefix_len, list_all}
 use Rattle.std.specs.Char.{is_ascii_digit}
+use Rattle.gap_base.specs.Sizes.{most_numeral}
 use Rattle.gap_base.specs.declared.numeral_fault.Rounded.{Rounded}
 use Rattle.gap_base.specs.declared.numeral_fault.NumeralFault.{NumeralFault}
 use Rattle.gap_base.specs.declared.numeral_fault.NumeralFault.TheVariants.{Shape, TooManyDigits, Exponent}
@@ -111,9 +112,9 @@ signed_size negative size = if negative then neg_ℤ (pos size) else pos size
 -- a size of at most 10^30 as it is, and 10^30 for a greater one, which isn't exact. Own to portgap.
 unfoldable pub capped : Bool → ℕ → Bool → Rounded
 capped negative size exact =
-    if nat_le size (10 ^ 30)
+    if nat_le size most_numeral
     then record { value = signed_size negative size; exact = exact }
-    else record { value = signed_size negative (10 ^ 30); exact = false }
+    else record { value = signed_size negative most_numeral; exact = false }
 
 -- `n / d` millionths: rounded to the nearest, a half away from zero, and cut off at 10^30. Own to
 -- portgap.

@@ -22,16 +22,25 @@ impl Model for Lots {
 }
 
 impl Lots {
+    /// The list of `n` numbers that are all `v`. It takes no memory.
+    pub fn filled(n: u16, v: u16) -> Lots
+        requires least { 2 ≤ n }
+        requires most { n ≤ 256 }
+        ensures { result ≡ replicate n v }
+    {
+        Lots {
+            len: n,
+            numbers: [v; 256],
+        }
+    }
+
     /// The list of `n` zeros. It takes no memory.
     pub fn zeros(n: u16) -> Lots
         requires least { 2 ≤ n }
         requires most { n ≤ 256 }
         ensures { result ≡ replicate n 0 }
     {
-        Lots {
-            len: n,
-            numbers: [0; 256],
-        }
+        Lots::filled(n, 0)
     }
 
     /// How many numbers there are, 2 to 256. Each is below 2^16.

@@ -1,7 +1,8 @@
 //! Decimal numerals, read as whole numbers of millionths.
 
-ghost use Rattle.std.specs.Prelude.{◌≡◌, ℕ, ◌+◌, ◌*◌, ◌%◌, ◌^◌, ◌==◌, ◌<◌, ◌≤◌, ◌++◌, ◌-◌, fold, min, if◌then◌else◌};
-ghost use Rattle.gap_base.specs.Numerals.{signed_size, capped, rounded_quotient, valued, numeral_of, AreDigits};
+ghost use Rattle.std.specs.Prelude.{◌≡◌, ◌↔◌, ℕ, ◌+◌, ◌*◌, ◌%◌, ◌^◌, ◌==◌, ◌<◌, ◌≤◌, ◌++◌, ◌-◌, fold, min, if◌then◌else◌};
+ghost use Rattle.gap_base.specs.Numerals.{signed_size, capped, rounded_quotient, valued, numeral_of, AreDigits, Parts};
+ghost use Rattle.gap_base.specs.Spellings.{Spells};
 ghost use Rattle.gap_base.specs.NumeralViews.{parts_view};
 
 use crate::numeral_fault::{NumeralFault, Rounded};
@@ -134,6 +135,9 @@ fn valued(p: &Pieces<'_>) -> Result<Rounded, NumeralFault>
 /// digits; at most 64 bytes. The value is rounded to the nearest millionth, a half away from zero,
 /// and a size above 10^30 is answered as 10^30.
 ///
+/// Which text spells which sign, digits and exponent is said by `Spells`; the value is a quotient of whole numbers of
+/// these parts that is rounded once.
+///
 /// Cost: one pass over the token, and at most 46 multiplications.
 ///
 /// # Errors
@@ -141,7 +145,9 @@ fn valued(p: &Pieces<'_>) -> Result<Rounded, NumeralFault>
 /// without leading zeros are more than 30; `Exponent` where the exponent is outside -40..40.
 #[tactic(auto, unfolding(crate::specs::Numerals::numeral_of))]
 pub fn read_numeral(token: &[u8]) -> Result<Rounded, NumeralFault>
-    ensures { result ≡ numeral_of token.now }
+    ensures value { result ≡ numeral_of token.now }
+    ensures shape { (result ≡ Err NumeralFault.Shape) ↔ ((parts : Parts) → Spells token.now parts → ⊥) }
+    ensures spelled { (parts : Parts) → Spells token.now parts → result ≡ valued parts }
 {
     match parts_of(token) {
         Some(p) => valued(&p),

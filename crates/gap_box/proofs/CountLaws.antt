@@ -1,6 +1,6 @@
 -- How many assets the lists of a part can hold.
 
-use Rattle.std.proofs.Common.{◌≡◌, ℕ, zero, suc, ◌+◌, ◌-◌, ◌<◌, ◌≤◌, Bool, true, false, ◌&&◌, ltb, leb, cond, List, [], ◌∷◌, IsTrue, refl, arith}
+use Rattle.std.proofs.Common.{◌≡◌, ◌↔◌, ℕ, zero, suc, ◌+◌, ◌-◌, ◌<◌, ◌≤◌, Bool, true, false, ◌&&◌, ltb, leb, cond, List, [], ◌∷◌, IsTrue, refl, arith}
 use Rattle.std.proofs.lemmas.Bool.Decides.{nat_tests}
 use Rattle.std.proofs.lemmas.List.Sums.{sum_by-cons}
 use Rattle.gap_box.specs.declared.cell.Cell.{Cell}
@@ -56,17 +56,25 @@ pick_range (c ∷ cells) (v ∷ x) h e =
     let e3 = frees-cons c cells in
     (omega arith, omega arith)
 
--- a list with k numbers that are positive means that the count can be met
-pub pick_meets : (cells : List Cell) (k : ℕ) (x : List ℕ) → AreCells cells → IsPick cells k x → can_meet cells k ≡ true
-pick_meets cells k x h p =
+-- a list that holds from `fewest` to `most` assets means that the count can be met
+pub pick_meets : (cells : List Cell) (fewest most : ℕ) (x : List ℕ) → AreCells cells → IsPick cells fewest most x → can_meet cells fewest most ≡ true
+pick_meets cells fewest most x h p =
     let r = pick_range cells x h p.inside in
-    let e = p.count in
-    let a : helds cells ≤ k = omega arith in
-    let b : k ≤ helds cells + frees cells = omega arith in
+    let few = p.few in
+    let many = p.many in
+    let a : helds cells ≤ most = omega arith in
+    let b : fewest ≤ helds cells + frees cells = omega arith in
     and_true _ _ (le_true _ _ a) (le_true _ _ b)
   where
     le_true : (m n : ℕ) → m ≤ n → leb m n ≡ true
     le_true m n h = grind (arith, nat_tests)
+
+-- a list with exactly k positive numbers is one with from k to k
+pub exact_pick : (cells : List Cell) (k : ℕ) (x : List ℕ) → in_part cells x ≡ true → held_count x ≡ k → IsPick cells k k x
+exact_pick cells k x h e = record { inside = h; few = omega arith; many = omega arith }
+
+pub pick_count : (cells : List Cell) (k : ℕ) (x : List ℕ) → IsPick cells k k x → held_count x ≡ k
+pick_count cells k x p = let a = p.few in let b = p.many in omega arith
 
 -- the list that holds the first j free cells
 abbrev pub firsts : ℕ → List Cell → List ℕ
@@ -149,13 +157,35 @@ firsts_differ j (Held l u ∷ cells) h p q e = firsts_differ j cells (rest_are _
 firsts_differ zero (Free l u ∷ cells) h p q e = omega arith
 firsts_differ (suc j) (Free l u ∷ cells) h p q e = let a = head_same _ _ _ _ e in let b = (first_is _ cells h).0 in omega arith
 
-both_le : (h k m : ℕ) → (leb h k && leb k m) ≡ true → (h ≤ k) × (k ≤ m)
-both_le h k m e = (grind (arith, nat_tests), grind (arith, nat_tests))
+both_le : (h most fewest all : ℕ) → (leb h most && leb fewest all) ≡ true → (h ≤ most) × (fewest ≤ all)
+both_le h most fewest all e = (grind (arith, nat_tests), grind (arith, nat_tests))
+
+-- the part has a list with each number of held assets from the cells that must be held to those that may be
+pub count_pick : (cells : List Cell) (k : ℕ) → AreCells cells → helds cells ≤ k → k ≤ helds cells + frees cells → (x : List ℕ) × (in_part cells x ≡ true) × (held_count x ≡ k)
+count_pick cells k h a b =
+    let n = firsts_count (k - helds cells) cells h (omega arith) in
+    (firsts (k - helds cells) cells, firsts_in (k - helds cells) cells h, omega arith)
 
 -- where the count can be met there is a list
-pub meets_pick : (cells : List Cell) (k : ℕ) → AreCells cells → can_meet cells k ≡ true → (x : List ℕ) × IsPick cells k x
-meets_pick cells k h e =
-    let r = both_le (helds cells) k (helds cells + frees cells) e in
-    let a : (k - helds cells) ≤ frees cells = omega arith in
-    let n = firsts_count (k - helds cells) cells h a in
-    (firsts (k - helds cells) cells, record { inside = firsts_in (k - helds cells) cells h; count = omega arith })
+pub meets_pick : (cells : List Cell) (fewest most : ℕ) → AreCells cells → fewest ≤ most → can_meet cells fewest most ≡ true → (x : List ℕ) × IsPick cells fewest most x
+meets_pick cells fewest most h le e =
+    let r = both_le (helds cells) most fewest (helds cells + frees cells) e in
+    meets_by (leb fewest (helds cells)) refl
+  where
+    meets_by : (b : Bool) → leb fewest (helds cells) ≡ b → (x : List ℕ) × IsPick cells fewest most x
+    meets_by true q =
+        let r = both_le (helds cells) most fewest (helds cells + frees cells) e in
+        let f : fewest ≤ helds cells = grind (arith, nat_tests) in
+        let w = count_pick cells (helds cells) h (omega arith) (omega arith) in
+        let n = w.2 in
+        (w.0, record { inside = w.1; few = omega arith; many = omega arith })
+    meets_by false q =
+        let r = both_le (helds cells) most fewest (helds cells + frees cells) e in
+        let f : helds cells ≤ fewest = grind (arith, nat_tests) in
+        let w = count_pick cells fewest h f r.1 in
+        let n = w.2 in
+        (w.0, record { inside = w.1; few = omega arith; many = omega arith })
+
+-- the count can be met exactly where a list meets it
+pub meets_iff : (cells : List Cell) (fewest most : ℕ) → AreCells cells → fewest ≤ most → (can_meet cells fewest most ≡ true) ↔ ((x : List ℕ) × IsPick cells fewest most x)
+meets_iff cells fewest most h le = (meets_pick cells fewest most h le, λ w. pick_meets cells fewest most w.0 h w.1)

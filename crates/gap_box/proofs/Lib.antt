@@ -3,3 +3,4 @@ pub mod CountLaws
 pub mod PartLaws
 pub mod SingleLaws
 pub mod SplitLaws
+pub mod NarrowLaws

@@ -1,6 +1,6 @@
--- When a part has one list that holds exactly k assets.
+-- When a part has one list that holds a number of assets in a range.
 
-use Rattle.std.proofs.Common.{◌≡◌, ◌≢◌, ◌↔◌, ◌⊎◌, inl, inr, ℕ, zero, suc, ◌+◌, ◌-◌, ◌<◌, ◌≤◌, Bool, true, false, eqb, cond, List, [], ◌∷◌, length, Option, Some, None, slice_index_or, refl, arith, sym, ◌∙◌}
+use Rattle.std.proofs.Common.{◌≡◌, ◌≢◌, ◌↔◌, ◌⊎◌, inl, inr, ℕ, zero, suc, ◌+◌, ◌-◌, ◌<◌, ◌≤◌, max, min, Bool, true, false, eqb, cond, List, [], ◌∷◌, length, Option, Some, None, slice_index_or, refl, arith, ap, sym, ◌∙◌}
 use Rattle.std.proofs.lemmas.Bool.Decides.{nat_tests}
 use Rattle.gap_box.specs.declared.cell.Cell.{Cell}
 use Rattle.gap_box.specs.declared.cell.Cell.TheVariants.{Out, Held, Free}
@@ -8,7 +8,7 @@ use Rattle.gap_box.specs.Cells.{IsCell, AreCells, in_cell}
 use Rattle.gap_box.specs.Parts.{in_part, held_count, helds, frees, IsPick, IsSingle}
 use Rattle.gap_box.specs.Only.{only_number, onto, only_list}
 use Rattle.gap_box.proofs.CellLaws.{rest_are, first_is}
-use Rattle.gap_box.proofs.CountLaws.{one_held, one_must, one_may, held_count-cons, helds-cons, frees-cons, both_true, and_true, cell_range, pick_range, firsts_in, nexts_in, firsts_count, nexts_count, firsts_differ}
+use Rattle.gap_box.proofs.CountLaws.{one_held, one_must, one_may, held_count-cons, helds-cons, frees-cons, both_true, and_true, cell_range, pick_range, exact_pick, pick_count, count_pick, firsts, nexts, firsts_in, nexts_in, firsts_count, nexts_count, firsts_differ}
 
 -- how many a part holds where its free cells are held or aren't
 abbrev pub held_of : Bool → List Cell → ℕ
@@ -68,27 +68,27 @@ held_of-cons : (b : Bool) (c : Cell) (cells : List Cell) → held_of b (c ∷ ce
 held_of-cons true c cells = let d = helds-cons c cells in let e = frees-cons c cells in omega arith
 held_of-cons false c cells = let d = helds-cons c cells in omega arith
 
-lows_pick : (b : Bool) (cells : List Cell) → AreCells cells → IsPick cells (held_of b cells) (lows b cells)
-lows_pick true [] h = record { inside = refl; count = refl }
-lows_pick false [] h = record { inside = refl; count = refl }
+lows_pick : (b : Bool) (cells : List Cell) → AreCells cells → IsPick cells (held_of b cells) (held_of b cells) (lows b cells)
+lows_pick true [] h = record { inside = refl; few = omega arith; many = omega arith }
+lows_pick false [] h = record { inside = refl; few = omega arith; many = omega arith }
 lows_pick b (c ∷ cells) h =
     let r = lows_pick b cells (rest_are c cells h) in
-    let k = r.count in
+    let k = pick_count cells (held_of b cells) (lows b cells) r in
     let o = low_held b c (first_is c cells h) in
     let e = held_count-cons (low_of b c) (lows b cells) in
     let f = held_of-cons b c cells in
-    record { inside = and_true _ _ (low_in b c (first_is c cells h)) r.inside; count = omega arith }
+    exact_pick (c ∷ cells) (held_of b (c ∷ cells)) (lows b (c ∷ cells)) (and_true _ _ (low_in b c (first_is c cells h)) r.inside) (omega arith)
 
-highs_pick : (b : Bool) (cells : List Cell) → AreCells cells → IsPick cells (held_of b cells) (highs b cells)
-highs_pick true [] h = record { inside = refl; count = refl }
-highs_pick false [] h = record { inside = refl; count = refl }
+highs_pick : (b : Bool) (cells : List Cell) → AreCells cells → IsPick cells (held_of b cells) (held_of b cells) (highs b cells)
+highs_pick true [] h = record { inside = refl; few = omega arith; many = omega arith }
+highs_pick false [] h = record { inside = refl; few = omega arith; many = omega arith }
 highs_pick b (c ∷ cells) h =
     let r = highs_pick b cells (rest_are c cells h) in
-    let k = r.count in
+    let k = pick_count cells (held_of b cells) (highs b cells) r in
     let o = high_held b c (first_is c cells h) in
     let e = held_count-cons (high_of b c) (highs b cells) in
     let f = held_of-cons b c cells in
-    record { inside = and_true _ _ (high_in b c (first_is c cells h)) r.inside; count = omega arith }
+    exact_pick (c ∷ cells) (held_of b (c ∷ cells)) (highs b (c ∷ cells)) (and_true _ _ (high_in b c (first_is c cells h)) r.inside) (omega arith)
 
 onto_some : (o : Option ℕ) (r : Option (List ℕ)) (z : List ℕ) → onto o r ≡ Some z → (v : ℕ) × (y : List ℕ) × (o ≡ Some v) × (r ≡ Some y) × (z ≡ v ∷ y)
 onto_some None r z e = cc
@@ -175,36 +175,87 @@ list_only b (c ∷ cells) (v ∷ x) z h p e f =
     halves false must may helds frees one more p q e = (omega arith, omega arith)
 
 -- the list of the only numbers is the part's only list with its count
-pub single_some : (b : Bool) (cells : List Cell) (x : List ℕ) → AreCells cells → only_list b cells ≡ Some x → IsSingle cells (held_of b cells) x
+pub single_some : (b : Bool) (cells : List Cell) (x : List ℕ) → AreCells cells → only_list b cells ≡ Some x → IsSingle cells (held_of b cells) (held_of b cells) x
 single_some b cells x h e =
     let l = list_low b cells x e in
-    record { pick = rw l (lows_pick b cells h); only = λ z p. list_only b cells z x h p.inside p.count e }
+    record { pick = rw l (lows_pick b cells h); only = λ z p. list_only b cells z x h p.inside (pick_count cells (held_of b cells) z p) e }
 
 -- where there is one list with the count, it is the list of the only numbers
-pub some_single : (b : Bool) (cells : List Cell) (x : List ℕ) → AreCells cells → IsSingle cells (held_of b cells) x → only_list b cells ≡ Some x
+pub some_single : (b : Bool) (cells : List Cell) (x : List ℕ) → AreCells cells → IsSingle cells (held_of b cells) (held_of b cells) x → only_list b cells ≡ Some x
 some_single b cells x h s = by_cases (only_list b cells) refl where
   by_cases : (o : Option (List ℕ)) → only_list b cells ≡ o → only_list b cells ≡ Some x
   by_cases None e = absurd (list_none b cells e (s.only _ (lows_pick b cells h) ∙ sym (s.only _ (highs_pick b cells h))))
   by_cases (Some z) e = let t = single_some b cells z h e in let q = t.only x s.pick in cc
 
 -- with a count between the least and the greatest there is more than one list, with others there is none
-pub single_never : (cells : List Cell) (k : ℕ) (x : List ℕ) → AreCells cells → k ≢ helds cells → k ≢ helds cells + frees cells → IsSingle cells k x → ⊥
+pub single_never : (cells : List Cell) (k : ℕ) (x : List ℕ) → AreCells cells → k ≢ helds cells → k ≢ helds cells + frees cells → IsSingle cells k k x → ⊥
 single_never cells k x h p q s =
     let r = pick_range cells x h s.pick.inside in
-    let e = s.pick.count in
+    let e = pick_count cells k x s.pick in
     let a : 0 < (k - helds cells) = omega arith in
     let b : (k - helds cells) < frees cells = omega arith in
     let m = firsts_count (k - helds cells) cells h (omega arith) in
     let n = nexts_count (k - helds cells) cells h b in
-    let u = s.only _ (record { inside = firsts_in (k - helds cells) cells h; count = omega arith }) in
-    let v = s.only _ (record { inside = nexts_in (k - helds cells) cells h; count = omega arith }) in
+    let u = s.only _ (exact_pick cells k (firsts (k - helds cells) cells) (firsts_in (k - helds cells) cells h) (omega arith)) in
+    let v = s.only _ (exact_pick cells k (nexts (k - helds cells) cells) (nexts_in (k - helds cells) cells h) (omega arith)) in
     firsts_differ (k - helds cells) cells h a (omega arith) (u ∙ sym v)
 
-pub single_by : (b : Bool) (cells : List Cell) (k : ℕ) (result : Option (List ℕ)) → AreCells cells → result ≡ only_list b cells → k ≡ held_of b cells → (x : List ℕ) → (result ≡ Some x) ↔ IsSingle cells k x
-single_by b cells k result h e f x = (λ p. rw f (single_some b cells x h (sym e ∙ p)), λ s. e ∙ some_single b cells x h (rw f at s))
+-- the numbers of held assets that a part and a range leave: from the greater of the two least to the lesser of the two greatest
+pub record AreEnds (cells : List Cell) (fewest most low high : ℕ) : Type 0 where
+  pub low_is : low ≡ max fewest (helds cells)
+  pub high_is : high ≡ min most (helds cells + frees cells)
 
-pub single_no : (cells : List Cell) (k : ℕ) → AreCells cells → k ≢ helds cells → k ≢ helds cells + frees cells → (x : List ℕ) → (None ≡ Some x) ↔ IsSingle cells k x
-single_no cells k h p q x = (λ e. cc, λ s. absurd (single_never cells k x h p q s))
+pick_ends : (cells : List Cell) (fewest most low high : ℕ) (x : List ℕ) → AreCells cells → AreEnds cells fewest most low high → IsPick cells fewest most x → (low ≤ held_count x) × (held_count x ≤ high)
+pick_ends cells fewest most low high x h n p =
+    let r = pick_range cells x h p.inside in
+    let few = p.few in
+    let many = p.many in
+    let l = n.low_is in
+    let g = n.high_is in
+    (omega arith, omega arith)
+
+ends_pick : (cells : List Cell) (fewest most low high : ℕ) (x : List ℕ) → AreEnds cells fewest most low high → in_part cells x ≡ true → low ≤ held_count x → held_count x ≤ high → IsPick cells fewest most x
+ends_pick cells fewest most low high x n e f g =
+    let a = n.low_is in
+    let b = n.high_is in
+    record { inside = e; few = omega arith; many = omega arith }
+
+-- where more than one number is left, or none, there isn't one list alone
+pub ends_apart : (cells : List Cell) (fewest most low high : ℕ) → AreCells cells → AreEnds cells fewest most low high → low ≢ high → (x : List ℕ) → (None ≡ Some x) ↔ IsSingle cells fewest most x
+ends_apart cells fewest most low high h n e x = (λ q. cc, λ s. absurd (apart s))
+  where
+    apart : IsSingle cells fewest most x → ⊥
+    apart s =
+        let r = pick_ends cells fewest most low high x h n s.pick in
+        let least = n.low_is in
+        let greatest = n.high_is in
+        let lt : low < high = omega arith in
+        let a = count_pick cells low h (omega arith) (omega arith) in
+        let b = count_pick cells high h (omega arith) (omega arith) in
+        let m = a.2 in
+        let o = b.2 in
+        let u = s.only a.0 (ends_pick cells fewest most low high a.0 n a.1 (omega arith) (omega arith)) in
+        let v = s.only b.0 (ends_pick cells fewest most low high b.0 n b.1 (omega arith) (omega arith)) in
+        let w : held_count a.0 ≡ held_count b.0 = ap (λ (z : List ℕ). held_count z) (u ∙ sym v) in
+        omega arith
+
+-- where one number is left, the part is single in the range as it is with that number
+ends_single : (cells : List Cell) (fewest most k : ℕ) (x : List ℕ) → AreCells cells → AreEnds cells fewest most k k → IsSingle cells fewest most x ↔ IsSingle cells k k x
+ends_single cells fewest most k x h n = (λ s. record { pick = to x s.pick; only = λ z p. s.only z (from z p) }, λ s. record { pick = from x s.pick; only = λ z p. s.only z (to z p) })
+  where
+    to : (z : List ℕ) → IsPick cells fewest most z → IsPick cells k k z
+    to z p = let r = pick_ends cells fewest most k k z h n p in exact_pick cells k z p.inside (omega arith)
+
+    from : (z : List ℕ) → IsPick cells k k z → IsPick cells fewest most z
+    from z p = ends_pick cells fewest most k k z n p.inside p.few p.many
+
+pub single_by : (b : Bool) (cells : List Cell) (fewest most k : ℕ) (result : Option (List ℕ)) → AreCells cells → AreEnds cells fewest most k k → result ≡ only_list b cells → k ≡ held_of b cells → (x : List ℕ) → (result ≡ Some x) ↔ IsSingle cells fewest most x
+single_by b cells fewest most k result h n e f x =
+    let w = ends_single cells fewest most k x h n in
+    (λ p. w.1 (rw f (single_some b cells x h (sym e ∙ p))), λ s. e ∙ some_single b cells x h (rw f at (w.0 s)))
+
+pub single_no : (cells : List Cell) (fewest most k : ℕ) → AreCells cells → AreEnds cells fewest most k k → k ≢ helds cells → k ≢ helds cells + frees cells → (x : List ℕ) → (None ≡ Some x) ↔ IsSingle cells fewest most x
+single_no cells fewest most k h n p q x = (λ e. cc, λ s. absurd (single_never cells k x h p q ((ends_single cells fewest most k x h n).0 s)))
 
 -- the list from its numbers, place by place
 pub only_all : (b : Bool) (cells : List Cell) (x : List ℕ) → length x ≡ length cells → ((k : ℕ) → k < length cells → only_number b (slice_index_or cells k Out) ≡ Some (slice_index_or x k 0)) → only_list b cells ≡ Some x

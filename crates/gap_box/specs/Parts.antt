@@ -34,19 +34,20 @@ helds cells = count_by is_held cells
 abbrev pub frees : List Cell → ℕ
 frees cells = count_by is_free cells
 
--- can exactly k assets be held? At most k cells must be, and at least k may be
-abbrev pub can_meet : List Cell → ℕ → Bool
-can_meet cells k = leb (helds cells) k && leb k (helds cells + frees cells)
+-- can a number of assets from `fewest` to `most` be held? At most `most` cells must be, and at least `fewest` may be
+abbrev pub can_meet : List Cell → ℕ → ℕ → Bool
+can_meet cells fewest most = leb (helds cells) most && leb fewest (helds cells + frees cells)
 
--- a list of the part that holds exactly k assets
-pub record IsPick (cells : List Cell) (k : ℕ) (x : List ℕ) : Type 0 where
+-- a list of the part that holds from `fewest` to `most` assets
+pub record IsPick (cells : List Cell) (fewest most : ℕ) (x : List ℕ) : Type 0 where
   pub inside : IsTrue (in_part cells x)
-  pub count : held_count x ≡ k
+  pub few : fewest ≤ held_count x
+  pub many : held_count x ≤ most
 
--- the only list of the part that holds exactly k assets
-pub record IsSingle (cells : List Cell) (k : ℕ) (x : List ℕ) : Type 0 where
-  pub pick : IsPick cells k x
-  pub only : (z : List ℕ) → IsPick cells k z → z ≡ x
+-- the only list of the part that holds from `fewest` to `most` assets
+pub record IsSingle (cells : List Cell) (fewest most : ℕ) (x : List ℕ) : Type 0 where
+  pub pick : IsPick cells fewest most x
+  pub only : (z : List ℕ) → IsPick cells fewest most z → z ≡ x
 
 -- a part within another of the same length: each list of the one is a list of the other
 pub record IsWithin (cells whole : List Cell) : Type 0 where

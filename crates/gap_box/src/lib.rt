@@ -3,11 +3,16 @@
 #![tactic(auto)]
 
 mod cell;
+mod laws;
 mod node;
 mod part;
 mod split;
 
 pub use cell::Cell;
+pub use laws::count_is_met;
 pub use node::NodeId;
 pub use part::Part;
 pub use split::{Side, Split};
+
+#[cfg(test)]
+mod tests;

@@ -1,12 +1,13 @@
 //! Parts: lists of cells, one for each asset.
 
-ghost use Rattle.std.specs.Prelude.{◌≡◌, ℕ, ◌+◌, ◌<◌, ◌≤◌, ◌↔◌, Bool, Some, None, List, length, replicate, slice_get, slice_index_or, slice_set, IsTrue};
+ghost use Rattle.std.specs.Prelude.{◌≡◌, ◌≢◌, cond, IsNone, IfSome, ℕ, ◌+◌, ◌<◌, ◌≤◌, ◌↔◌, Bool, Some, None, List, length, replicate, slice_get, slice_index_or, slice_set, IsTrue};
 ghost use Rattle.gap_box.specs.declared.cell.Cell.TheVariants.{Out, Held, Free};
 ghost use Rattle.gap_box.specs.declared.split.Side.TheVariants.{First, Second};
 ghost use Rattle.gap_box.specs.Cells.{IsCell, AreCells, is_held, is_free};
 ghost use Rattle.gap_box.specs.Parts.{in_part, indicator, points, helds, frees, can_meet, IsSingle, IsWithin, AreLimits, root_cell, root_cells};
 ghost use Rattle.gap_box.specs.Splits.{lawful_split, can_cut, held_side, cut_side, child_cells};
 ghost use Rattle.gap_box.specs.Only.{only_number, only_list};
+ghost use Rattle.gap_box.specs.Narrow.{range_cell, held_narrow, cut_narrow, narrow_cell, asset_of, narrowed};
 
 use crate::cell::Cell;
 use crate::split::{Side, Split};
@@ -108,28 +109,55 @@ impl Part {
         }
     }
 
-    /// Does the part have a list that holds exactly `k` assets? It costs one pass.
-    pub fn count_possible(&self, k: u16) -> bool
-        ensures { result ≡ can_meet self.now k }
+    /// Leaves of the part what a side of any split leaves: the child where the split is lawful, and else no list where
+    /// nothing is left. Two of these may be done in either order. It costs one write.
+    pub fn narrow(&mut self, split: Split, side: Side)
+        ensures { self.new ≡ narrowed self.old split side }
     {
-        let held = self.held_cells();
-        held <= k && k <= held + self.free_cells()
+        let i = split_asset(split);
+        if i < self.len() {
+            let cell = narrow_cell(split, self.cell(i), side);
+            self.put(i, cell);
+        }
     }
 
-    /// The only list of the part that holds exactly `k` assets, exactly where there is just one. It costs two passes.
-    pub fn single(&self, k: u16) -> Option<Lots>
-        ensures { (x : List ℕ) → (result ≡ Some x) ↔ IsSingle self.now k x }
+    /// Does the part have a list that holds from `fewest` to `most` assets? It costs one pass.
+    pub fn count_within(&self, fewest: u16, most: u16) -> bool
+        requires { fewest ≤ most }
+        ensures { result ≡ can_meet self.now fewest most }
+    {
+        let held = self.held_cells();
+        held <= most && fewest <= held + self.free_cells()
+    }
+
+    /// Does the part have a list that holds exactly `k` assets? It costs one pass.
+    pub fn count_possible(&self, k: u16) -> bool
+        ensures { result ≡ can_meet self.now k k }
+    {
+        self.count_within(k, k)
+    }
+
+    /// The only list of the part that holds from `fewest` to `most` assets, exactly where there is just one. It costs
+    /// two passes.
+    pub fn single_within(&self, fewest: u16, most: u16) -> Option<Lots>
+        requires { fewest ≤ most }
+        ensures { (x : List ℕ) → (result ≡ Some x) ↔ IsSingle self.now fewest most x }
     {
         // each cell is in range
         let _count = self.len();
         let held = self.held_cells();
-        if k == held {
-            self.only_list(false)
-        } else if k == held + self.free_cells() {
-            self.only_list(true)
-        } else {
-            None
+        let all = held + self.free_cells();
+        match only_pick(fewest.max(held), most.min(all), held, all) {
+            Some(free_held) => self.only_list(free_held),
+            None => None,
         }
+    }
+
+    /// The only list of the part that holds exactly `k` assets, exactly where there is just one. It costs two passes.
+    pub fn single(&self, k: u16) -> Option<Lots>
+        ensures { (x : List ℕ) → (result ≡ Some x) ↔ IsSingle self.now k k x }
+    {
+        self.single_within(k, k)
     }
 
     /// How many cells must be held. It costs one pass.
@@ -184,8 +212,8 @@ impl Part {
         }
     }
 
-    /// Puts a cell at place `i`; every other cell stays.
-    fn put(&mut self, i: u16, cell: Cell)
+    /// Puts a cell at place `i`; every other cell stays. It costs one write.
+    pub fn put(&mut self, i: u16, cell: Cell)
         requires there { i < length self.old }
         requires valid { IsCell cell }
         ensures { self.new ≡ slice_set self.old i cell }
@@ -202,6 +230,23 @@ impl Part {
         let mut part = self.copy();
         part.put(i, cell);
         part
+    }
+}
+
+/// Where one number of held assets is left, from `low` to `high`, and leaves no choice between the assets that are free:
+/// whether all of these are held, or none. `held` assets must be held, and `all` may be.
+fn only_pick(low: u16, high: u16, held: u16, all: u16) -> Option<bool>
+    ensures some { IfSome result (λ free_held. (low ≡ high) × (low ≡ cond free_held all held)) }
+    ensures none { IsNone result → low ≡ high → (low ≢ held) × (low ≢ all) }
+{
+    if low != high {
+        None
+    } else if low == held {
+        Some(false)
+    } else if low == all {
+        Some(true)
+    } else {
+        None
     }
 }
 
@@ -280,5 +325,78 @@ fn only_lots(cell: Cell, free_held: bool) -> Option<u16>
                 Some(0)
             }
         }
+    }
+}
+
+/// The asset that a split speaks of.
+fn split_asset(split: Split) -> u16
+    ensures { result ≡ asset_of split }
+{
+    match split {
+        Split::Held(i) => i,
+        Split::Lots(i, _) => i,
+    }
+}
+
+/// What a side of a split leaves of a cell of its asset.
+fn narrow_cell(split: Split, cell: Cell, side: Side) -> Cell
+    requires { IsCell cell }
+    ensures value { result ≡ narrow_cell split cell side }
+    ensures valid { IsCell result }
+{
+    match split {
+        Split::Held(_) => narrow_held(cell, side),
+        Split::Lots(_, t) => narrow_lots(cell, t, side),
+    }
+}
+
+/// What is left of a cell where its asset isn't held, or is.
+fn narrow_held(cell: Cell, side: Side) -> Cell
+    ensures { result ≡ held_narrow cell side }
+{
+    match (cell, side) {
+        (Cell::Held { l, u }, Side::Second) => Cell::Held { l, u },
+        (Cell::Free { l, u }, Side::Second) => Cell::Held { l, u },
+        _ => Cell::Out,
+    }
+}
+
+/// What is left of a cell where its asset is held with at most `t` lots, or with more.
+fn narrow_lots(cell: Cell, t: u16, side: Side) -> Cell
+    requires { IsCell cell }
+    ensures { result ≡ cut_narrow t cell side }
+{
+    match cell {
+        Cell::Out => Cell::Out,
+        Cell::Held { l, u } => narrow_range(l, u, t, side),
+        Cell::Free { l, u } => narrow_range(l, u, t, side),
+    }
+}
+
+/// The part of a range up to `t`, or above it; `Out` where it is empty.
+fn narrow_range(l: u16, u: u16, t: u16, side: Side) -> Cell
+    requires { u ≤ 10000 }
+    ensures { result ≡ cut_narrow t (Held l u) side }
+{
+    match side {
+        Side::First => range_cell(l, u.min(t)),
+        Side::Second => {
+            if t < u {
+                range_cell(l.max(t + 1), u)
+            } else {
+                Cell::Out
+            }
+        }
+    }
+}
+
+/// The cell that must have `l` to `u` lots; `Out` where there is no such number.
+fn range_cell(l: u16, u: u16) -> Cell
+    ensures { result ≡ range_cell l u }
+{
+    if l <= u {
+        Cell::Held { l, u }
+    } else {
+        Cell::Out
     }
 }

@@ -86,9 +86,6 @@ below_at n C t u p h R D r g small = rw p (h R D r g small)
 pub below_moved : (C : ℕ → ℕ → ℤ) (n m : ℕ) (t : ℤ) → m ≡ n → t ≡ sum_below m (plain_of m C) → IsBelowRounded n C (sum_below n (plain_of n C)) → IsBelowRounded m C t
 below_moved C n m t p q h = below_at m C t (sum_below n (plain_of n C)) (q ∙ ap (λ (k : ℕ). sum_below k (plain_of k C)) p) (below_for C n m (sum_below n (plain_of n C)) (sym p) h)
 
-pub lower_than : (a b c d : ℤ) → a <ℤ b → a ≡ c → b ≡ d → c <ℤ d
-lower_than a b c d h p q = omega (arith, ints)
-
 pub plain_for : (C : ℕ → ℕ → ℤ) (n m k : ℕ) (d : ℤ) → n ≡ m → d ≡ plain_of n C k → d ≡ plain_of m C k
 plain_for C n m k d p e = e ∙ ap (λ (j : ℕ). plain_of j C k) p
 

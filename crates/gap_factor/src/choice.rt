@@ -1,6 +1,6 @@
 //! The choice between the rounded factor and none.
 
-ghost use Rattle.std.specs.Prelude.{◌≡◌, ℕ, ℤ, ◌<◌, pos, ◌≤ℤ◌, IfOk, IsTrue, IsFalse};
+ghost use Rattle.std.specs.Prelude.{◌≡◌, ℕ, ℤ, ◌<◌, pos, ◌≤ℤ◌, ◌↔◌, IfOk, IsTrue, IsFalse};
 ghost use Rattle.gap_base.specs.Sums.{sum_below};
 ghost use Rattle.gap_instance.specs.Objective.{cov_of};
 ghost use Rattle.gap_psd.specs.Shifts.{r_of, d_of, total_of, IsDominantShift};
@@ -30,6 +30,13 @@ fn round(inst: &Instance, shift: &mut Shift) -> bool
     if !set_diagonal(inst, shift) {
         return false;
     }
+    needs_no_more(inst, shift)
+}
+
+/// Is the total of the shift at most the one where R is zero?
+fn needs_no_more(inst: &Instance, shift: &Shift) -> bool
+    ensures { IsTrue result ↔ (total_of shift.now ≤ℤ sum_below inst.now.market.assets (plain_of inst.now.market.assets (cov_of inst.now.market))) }
+{
     shift.total() <= plain_total(inst)
 }
 

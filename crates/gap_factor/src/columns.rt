@@ -109,6 +109,13 @@ pub fn clear_column(shift: &mut Shift, j: u16)
     }
 }
 
+/// Is anything owed?
+fn is_owed(pivot: i128) -> bool
+    ensures { IsTrue result ↔ (pos 0 <ℤ pivot) }
+{
+    0 < pivot
+}
+
 /// Writes column `j` where it is taken, and says whether it is.
 fn try_column(inst: &Instance, shift: &mut Shift, j: u16) -> bool
     requires same { inst.now.market.assets ≡ shift.old.assets }
@@ -118,7 +125,7 @@ fn try_column(inst: &Instance, shift: &mut Shift, j: u16) -> bool
     ensures taken { result ≡ takes_column shift.old.assets (cov_of inst.now.market) (r_of shift.old) j }
 {
     let pivot = owed_at(inst, shift, j, j);
-    if pivot <= 0 {
+    if !is_owed(pivot) {
         return false;
     }
     fill_column(inst, shift, j, root_of(pivot))

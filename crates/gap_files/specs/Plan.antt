@@ -1,11 +1,12 @@
-use Rattle.std.specs.Prelude.{ℕ, ◌+◌, ◌-◌, ◌^◌, min, List}
+-- Which calls are to fail. Own to portgap.
+use Rattle.std.specs.Prelude.{ℕ, List}
 use Rattle.std.specs.List.{Contains}
+use Rattle.gap_files.specs.Outside.{one_more}
 
--- the number of the coming call, where so many were begun: they are counted from 1, and the count stays at its last
--- value. Own to portgap
+-- the number of the coming call, where so many were begun: they are counted from 1
 abbrev pub next_call : ℕ → ℕ
-next_call calls = min (calls + 1) (2 ^ 64 - 1)
+next_call calls = one_more calls
 
--- the coming call is one of those that are to fail. Own to portgap
+-- the coming call is one of those that are to fail
 abbrev pub IsToFail : List ℕ → ℕ → Type 0
 IsToFail fail calls = Contains fail (next_call calls)

@@ -1,8 +1,8 @@
 //! A sink in memory, with writes that are to fail.
 ghost use Rattle.std.specs.Prelude.{Some, ◌≡◌, ◌≤◌, ◌++◌, [], IsErrOf, OnOk, OnErr};
-ghost use Rattle.gap_files.specs.Outside.{Rose, Writes};
+ghost use Rattle.gap_files.specs.Outside.{Counts, Writes};
 ghost use Rattle.gap_files.specs.Plan.{next_call, IsToFail};
-ghost use Rattle.gap_files.specs.Sinks.{written_to, writes_failed, writes_begun, writes_to_fail};
+ghost use Rattle.gap_files.specs.Sinks.{written_to, writes_failed, writes_begun, writes_to_fail, sink_now};
 
 use crate::plan::Plan;
 use crate::{Sink, Trouble};
@@ -40,13 +40,11 @@ impl MemorySink {
 }
 
 impl Sink for MemorySink {
-    ghost written = { λ sink. Some (written_to sink) };
-
-    ghost faults = { writes_failed };
+    ghost sink = { sink_now };
 
     fn write(&mut self, bytes: &[u8]) -> Result<(), Trouble>
         ensures bytes { Writes (Some (written_to self.old)) (Some (written_to self.new)) bytes.now result }
-        ensures cause { IsErrOf result Trouble.Failed → Rose (writes_failed self.old) (writes_failed self.new) }
+        ensures counted { Counts (writes_failed self.old) (writes_failed self.new) result }
         ensures later { writes_failed self.old ≤ writes_failed self.new }
 
         // It fails at the numbered writes alone, each time, and then writes nothing.

@@ -1,28 +1,33 @@
 //! Files of the system, through std.
-ghost use Rattle.std.specs.Prelude.{◌≡◌, ℕ, List, ◌≤◌, None, length, IfOk};
+ghost use Rattle.std.specs.Prelude.{◌≡◌, ℕ, List, [], ◌≤◌, None, length, IfOk, IsOk, IsTrue, ◌↔◌};
+ghost use Rattle.gap_files.specs.Outside.{Counts, NoneFell, SameElsewhere, SameEverywhere};
 ghost use Rattle.gap_files.specs.Tally.{count_of};
 
 use crate::{Files, Tally, Trouble};
 use std::alloc::Global;
-use std::io::{Read, Seek, SeekFrom};
+use std::io::{Read, Seek, SeekFrom, Write};
 use std::{fs, io, rt};
 
 /// The files of the system, reached through the runtime of `main`. What they hold isn't told: that they read and keep
-/// bytes as files should is not proved. A read of a missing file is a fault.
+/// bytes as files should is not proved. A read of a missing file is a fault. The unnamed file, whose name has no bytes,
+/// takes what is written to it and drops it.
 #[derive(Drop)]
 pub struct RealFiles<'a, R: rt::Files> {
     rt: &'a R,
     reads: Tally,
+    writes: Tally,
 }
 
 impl<'a, R: rt::Files> RealFiles<'a, R> {
-    /// The files that `rt` reaches, with every count at 0. It takes no memory until a read fails.
+    /// The files that `rt` reaches, with every count at 0. It takes no memory until a call fails.
     pub fn new(rt: &'a R, alloc: Global) -> RealFiles<'a, R>
-        ensures { (name : List ℕ) → ⟦<RealFiles<'a, R> as Files>⟧.read_faults result name ≡ 0 }
+        ensures reads { (name : List ℕ) → (⟦<RealFiles<'a, R> as Files>⟧.files result).read_faults name ≡ 0 }
+        ensures writes { (name : List ℕ) → (⟦<RealFiles<'a, R> as Files>⟧.files result).write_faults name ≡ 0 }
     {
         RealFiles {
             rt,
             reads: Tally::new(alloc),
+            writes: Tally::new(alloc),
         }
     }
 
@@ -34,6 +39,39 @@ impl<'a, R: rt::Files> RealFiles<'a, R> {
         file.seek(SeekFrom::Start(at))?;
         fill(&mut file, buf)
     }
+}
+
+// Whether the name is that of the unnamed file, which isn't one of the system.
+fn is_unnamed(name: &str) -> bool
+    ensures { IsTrue result ↔ (name.now ≡ []) }
+{
+    name.is_empty()
+}
+
+// Makes the file empty, also one that is missing.
+fn make_empty(rt: &impl rt::Files, name: &str) -> io::Result<()> {
+    fs::create(rt, name)?;
+    Ok(())
+}
+
+// Opens the file, or starts a missing one, and writes all the bytes behind its own.
+fn write_behind(rt: &impl rt::Files, name: &str, bytes: &[u8]) -> io::Result<()> {
+    let mut how = fs::OpenOptions::new();
+    how.append(true).create(true);
+    let mut file = how.open(rt, name)?;
+    write_out(&mut file, bytes)
+}
+
+// Writes until all is taken.
+fn write_out(file: &mut impl Write, bytes: &[u8]) -> io::Result<()> {
+    let mut done = 0;
+    while done < bytes.len() {
+        match file.write(&bytes[done..])? {
+            0 => return Err(io::Error::from(io::ErrorKind::WriteZero)),
+            more => done += more,
+        }
+    }
+    Ok(())
 }
 
 // Reads until the buffer is full or the file ends.
@@ -51,14 +89,52 @@ fn fill(file: &mut impl Read, buf: &mut [u8]) -> io::Result<usize>
 }
 
 impl<R: rt::Files> Files for RealFiles<'_, R> {
-    ghost content = { λ _ _. None };
-
-    ghost read_faults = { λ files name. count_of files.reads name };
+    ghost files = { λ files. record {
+      content = λ _. None;
+      read_faults = count_of files.reads;
+      write_faults = count_of files.writes;
+    } };
 
     fn read_at(&mut self, name: &str, at: u64, buf: &mut [u8]) -> Result<usize, Trouble> {
         match self.read_open(name, at, buf) {
             Ok(count) => Ok(count),
             Err(_) => Err(self.reads.fault(name)),
+        }
+    }
+
+    fn start(&mut self, name: &str) -> Result<(), Trouble>
+        ensures counted { Counts (count_of self.old.writes name.now) (count_of self.new.writes name.now) result }
+        ensures later { NoneFell (count_of self.old.writes) (count_of self.new.writes) }
+        ensures others { SameElsewhere name.now (count_of self.old.writes) (count_of self.new.writes) }
+        ensures reads { SameEverywhere (count_of self.old.reads) (count_of self.new.reads) }
+
+        // The unnamed file is always started.
+        ensures unnamed { name.now ≡ [] → IsOk result }
+    {
+        if is_unnamed(name) {
+            return Ok(());
+        }
+        match make_empty(self.rt, name) {
+            Ok(()) => Ok(()),
+            Err(_) => Err(self.writes.fault(name)),
+        }
+    }
+
+    fn append(&mut self, name: &str, bytes: &[u8]) -> Result<(), Trouble>
+        ensures counted { Counts (count_of self.old.writes name.now) (count_of self.new.writes name.now) result }
+        ensures later { NoneFell (count_of self.old.writes) (count_of self.new.writes) }
+        ensures others { SameElsewhere name.now (count_of self.old.writes) (count_of self.new.writes) }
+        ensures reads { SameEverywhere (count_of self.old.reads) (count_of self.new.reads) }
+
+        // The unnamed file takes any bytes.
+        ensures unnamed { name.now ≡ [] → IsOk result }
+    {
+        if is_unnamed(name) {
+            return Ok(());
+        }
+        match write_behind(self.rt, name, bytes) {
+            Ok(()) => Ok(()),
+            Err(_) => Err(self.writes.fault(name)),
         }
     }
 }

@@ -16,7 +16,7 @@ pub struct RealSink<'a, R: Print> {
 impl<'a, R: Print> RealSink<'a, R> {
     /// The standard output that `rt` reaches, with its count at 0.
     pub fn new(rt: &'a R) -> RealSink<'a, R>
-        ensures { ⟦<RealSink<'a, R> as Sink>⟧.faults result ≡ 0 }
+        ensures { (⟦<RealSink<'a, R> as Sink>⟧.sink result).faults ≡ 0 }
     {
         RealSink { rt, faults: 0 }
     }
@@ -35,9 +35,7 @@ impl<'a, R: Print> RealSink<'a, R> {
 }
 
 impl<R: Print> Sink for RealSink<'_, R> {
-    ghost written = { λ _. None };
-
-    ghost faults = { λ sink. sink.faults };
+    ghost sink = { λ sink. record { written = None; faults = sink.faults } };
 
     fn write(&mut self, bytes: &[u8]) -> Result<(), Trouble> {
         if self.write_all(bytes) {

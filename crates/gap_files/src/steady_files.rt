@@ -1,9 +1,9 @@
 //! Files in memory that never fail.
 ghost use Rattle.std.specs.Prelude.{Some, None, ◌≡◌, ◌≤◌, ◌≢◌, List, [], ℕ, length, IfOk, IsErrOf, OnOk, OnErr};
 ghost use Rattle.std.specs.Option.{option_map};
-ghost use Rattle.gap_files.specs.Outside.{SameElsewhere, SameEverywhere, ReadsAt, bytes_of};
+ghost use Rattle.gap_files.specs.Outside.{SameElsewhere, SameEverywhere, ReadsAt, Starts, Appends, bytes_of};
 ghost use Rattle.gap_files.specs.Store.{Copies};
-ghost use Rattle.gap_files.specs.Memory.{steadily_held_by};
+ghost use Rattle.gap_files.specs.Memory.{steadily_held_by, steady_files_now};
 
 use crate::store::{Store, copy_from};
 use crate::{Files, Trouble};
@@ -48,9 +48,7 @@ impl SteadyFiles {
 }
 
 impl Files for SteadyFiles {
-    ghost content = { λ files name. Some (steadily_held_by files name) };
-
-    ghost read_faults = { λ _ _. 0 };
+    ghost files = { steady_files_now };
 
     fn read_at(&mut self, name: &str, at: u64, buf: &mut [u8]) -> Result<usize, Trouble>
         ensures within { IfOk result (λ count. count ≤ length buf.new) }
@@ -64,6 +62,34 @@ impl Files for SteadyFiles {
         match self.store.content(name) {
             Some(held) => Ok(copy_from(held, at, buf)),
             None => Ok(0),
+        }
+    }
+
+    fn start(&mut self, name: &str) -> Result<(), Trouble>
+        ensures bytes { Starts (Some (steadily_held_by self.old name.now)) (Some (steadily_held_by self.new name.now)) result }
+        ensures contents { SameElsewhere name.now (steady_files_now self.old).content (steady_files_now self.new).content }
+
+        // It never fails, and where memory is refused no file changes.
+        ensures steady { ¬ (IsErrOf result Trouble.Failed) }
+        ensures refused { OnErr result (SameEverywhere (steadily_held_by self.old) (steadily_held_by self.new)) }
+    {
+        match self.store.put(name, b"".as_slice()) {
+            Ok(()) => Ok(()),
+            Err(OutOfMemory) => Err(Trouble::OutOfMemory),
+        }
+    }
+
+    fn append(&mut self, name: &str, bytes: &[u8]) -> Result<(), Trouble>
+        ensures bytes { Appends (Some (steadily_held_by self.old name.now)) (Some (steadily_held_by self.new name.now)) bytes.now result }
+        ensures contents { SameElsewhere name.now (steady_files_now self.old).content (steady_files_now self.new).content }
+
+        // It never fails, and where memory is refused no file changes.
+        ensures steady { ¬ (IsErrOf result Trouble.Failed) }
+        ensures refused { OnErr result (SameEverywhere (steadily_held_by self.old) (steadily_held_by self.new)) }
+    {
+        match self.store.append(name, bytes) {
+            Ok(()) => Ok(()),
+            Err(OutOfMemory) => Err(Trouble::OutOfMemory),
         }
     }
 }

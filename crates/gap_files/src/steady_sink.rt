@@ -1,7 +1,7 @@
 //! A sink in memory that never fails.
 ghost use Rattle.std.specs.Prelude.{Some, ◌≡◌, [], IsErrOf};
 ghost use Rattle.gap_files.specs.Outside.{Writes};
-ghost use Rattle.gap_files.specs.Sinks.{steadily_written_to};
+ghost use Rattle.gap_files.specs.Sinks.{steadily_written_to, steady_sink_now};
 
 use crate::{Sink, Trouble};
 use std::alloc::Global;
@@ -31,9 +31,7 @@ impl SteadySink {
 }
 
 impl Sink for SteadySink {
-    ghost written = { λ sink. Some (steadily_written_to sink) };
-
-    ghost faults = { λ _. 0 };
+    ghost sink = { steady_sink_now };
 
     fn write(&mut self, bytes: &[u8]) -> Result<(), Trouble>
         ensures bytes { Writes (Some (steadily_written_to self.old)) (Some (steadily_written_to self.new)) bytes.now result }

@@ -1,7 +1,7 @@
 //! Contents in memory, by name.
-ghost use Rattle.std.specs.Prelude.{◌≡◌, List, ℕ, OnOk, OnErr};
+ghost use Rattle.std.specs.Prelude.{Some, ◌≡◌, ◌++◌, List, ℕ, OnOk, OnErr};
 ghost use Rattle.std.specs.Option.{option_map};
-ghost use Rattle.gap_files.specs.Outside.{SameElsewhere, SameEverywhere};
+ghost use Rattle.gap_files.specs.Outside.{SameElsewhere, SameEverywhere, bytes_of};
 ghost use Rattle.gap_files.specs.Store.{content_in, Copies};
 
 use gap_base::OutOfMemory;
@@ -39,6 +39,21 @@ impl Store {
         match self.held.insert(key, held) {
             Ok(_) => Ok(()),
             Err(_) => Err(OutOfMemory),
+        }
+    }
+
+    /// Writes the bytes behind those of a name, which has none where its file is missing.
+    pub(crate) fn append(&mut self, name: &str, bytes: &[u8]) -> Result<(), OutOfMemory>
+        ensures put { OnOk result (content_in self.new name.now ≡ Some (bytes_of (content_in self.old name.now) ++ bytes.now)) }
+        ensures others { SameElsewhere name.now (content_in self.old) (content_in self.new) }
+        ensures refused { OnErr result (SameEverywhere (content_in self.old) (content_in self.new)) }
+    {
+        match self.held.get_mut(name) {
+            Some(held) => match held.extend_from_slice(bytes) {
+                Ok(()) => Ok(()),
+                Err(_) => Err(OutOfMemory),
+            },
+            None => self.put(name, bytes),
         }
     }
 

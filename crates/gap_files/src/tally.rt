@@ -1,6 +1,6 @@
 //! Names with a count each.
-ghost use Rattle.std.specs.Prelude.{◌≡◌, ◌+◌, ◌-◌, ◌^◌, ◌≤◌, min, OnOk, OnErr, List, ℕ};
-ghost use Rattle.gap_files.specs.Outside.{Rose, SameElsewhere, SameEverywhere};
+ghost use Rattle.std.specs.Prelude.{◌≡◌, ◌≤◌, OnOk, OnErr, List, ℕ};
+ghost use Rattle.gap_files.specs.Outside.{one_more, Counted, NoneFell, SameElsewhere, SameEverywhere};
 ghost use Rattle.gap_files.specs.Tally.{count_of};
 
 use crate::Trouble;
@@ -31,8 +31,8 @@ impl Tally {
     /// # Errors
     /// `OutOfMemory`, after which every count is as before.
     pub fn raise(&mut self, name: &str) -> Result<(), OutOfMemory>
-        ensures raised { OnOk result (count_of self.new name.now ≡ min (count_of self.old name.now + 1) (2 ^ 64 - 1)) }
-        ensures later { count_of self.old name.now ≤ count_of self.new name.now }
+        ensures raised { OnOk result (count_of self.new name.now ≡ one_more (count_of self.old name.now)) }
+        ensures later { NoneFell (count_of self.old) (count_of self.new) }
         ensures others { SameElsewhere name.now (count_of self.old) (count_of self.new) }
         ensures refused { OnErr result (SameEverywhere (count_of self.old) (count_of self.new)) }
     {
@@ -48,8 +48,8 @@ impl Tally {
 
     /// Counts a fault of `name`, and answers it as `Failed`; where memory for it is refused, that is the answer.
     pub(crate) fn fault(&mut self, name: &str) -> Trouble
-        ensures cause { result ≡ Trouble.Failed → Rose (count_of self.old name.now) (count_of self.new name.now) }
-        ensures later { count_of self.old name.now ≤ count_of self.new name.now }
+        ensures counted { Counted (count_of self.old name.now) (count_of self.new name.now) result }
+        ensures later { NoneFell (count_of self.old) (count_of self.new) }
         ensures others { SameElsewhere name.now (count_of self.old) (count_of self.new) }
     {
         match self.raise(name) {

@@ -96,3 +96,73 @@ fn writes_to_standard_output(rt: HostRuntime) {
     assert_eq!(rt; sink.write(b"portgap\n".as_slice()), Ok(()));
     assert_eq!(rt; sink.write(b"".as_slice()), Ok(()));
 }
+
+#[test]
+fn appends_to_memory(rt: HostRuntime) -> Result<(), Fail> {
+    let alloc = rt.alloc();
+    let mut files = MemoryFiles::new(alloc, vec![in alloc; 3u64, 5u64]?);
+    files.put("A", b"old".as_slice())?;
+    assert_eq!(rt; files.start("A"), Ok(()));
+    assert_eq!(rt; files.append("A", b"port".as_slice()), Ok(()));
+    assert_eq!(rt;
+        files.append("A", b"lost".as_slice()),
+        Err(Trouble::Failed),
+        "the third call"
+    );
+    assert_eq!(rt; files.append("A", b"gap".as_slice()), Ok(()));
+    assert_eq!(rt; files.start("B"), Err(Trouble::Failed), "the fifth call");
+    assert_eq!(rt; files.append("C", b"new".as_slice()), Ok(()));
+    assert_eq!(rt; files.content("A"), Some(b"portgap".as_slice()));
+    assert_eq!(rt; files.content("B"), None);
+    assert_eq!(rt; files.content("C"), Some(b"new".as_slice()));
+    Ok(())
+}
+
+#[test]
+fn appends_to_steady_files(rt: HostRuntime) -> Result<(), Fail> {
+    let mut files = SteadyFiles::new(rt.alloc());
+    files.put("A", b"old".as_slice())?;
+    assert_eq!(rt; files.append("A", b"er".as_slice()), Ok(()));
+    assert_eq!(rt; files.content("A"), Some(b"older".as_slice()));
+    Ok(())
+}
+
+#[test]
+fn appends_to_a_missing_steady_file(rt: HostRuntime) -> Result<(), Fail> {
+    let mut files = SteadyFiles::new(rt.alloc());
+    assert_eq!(rt; files.append("B", b"gap".as_slice()), Ok(()));
+    assert_eq!(rt; files.content("B"), Some(b"gap".as_slice()));
+    Ok(())
+}
+
+#[test]
+fn starts_a_steady_file(rt: HostRuntime) -> Result<(), Fail> {
+    let mut files = SteadyFiles::new(rt.alloc());
+    assert_eq!(rt; files.start("C"), Ok(()));
+    assert_eq!(rt; files.content("C"), Some(b"".as_slice()));
+    Ok(())
+}
+
+#[test]
+fn appends_to_a_file_of_the_system(rt: HostRuntime) -> Result<(), Fail> {
+    fs::write(&rt, "gap_files_append", "old")?;
+    let mut files = RealFiles::new(&rt, rt.alloc());
+    assert_eq!(rt; files.start("gap_files_append"), Ok(()));
+    assert_eq!(rt;
+        files.append("gap_files_append", b"port".as_slice()),
+        Ok(())
+    );
+    assert_eq!(rt; files.append("gap_files_append", b"gap".as_slice()), Ok(()));
+    assert_eq!(rt; files.start("gap_files_none/A"), Err(Trouble::Failed));
+    assert_eq!(rt;
+        files.append("gap_files_none/A", b"gap".as_slice()),
+        Err(Trouble::Failed)
+    );
+    assert_eq!(rt; files.start(""), Ok(()));
+    assert_eq!(rt; files.append("", b"gap".as_slice()), Ok(()));
+    let mut buf = [0u8; 8];
+    assert_eq!(rt; files.read_at("gap_files_append", 0, &mut buf), Ok(7));
+    assert_eq!(rt; &buf[..7], b"portgap".as_slice());
+    fs::remove_file(&rt, "gap_files_append")?;
+    Ok(())
+}

@@ -1,9 +1,9 @@
 -- Laws of the limits.
-use Rattle.std.proofs.Common.{◌≡◌, ℕ, zero, suc, ◌<◌, ◌≤◌, List, [], ◌∷◌, length, replicate, slice_index_or, refl, arith}
+use Rattle.std.proofs.Common.{◌≡◌, ℕ, zero, suc, ◌<◌, ◌≤◌, List, [], ◌∷◌, length, replicate, slice_index_or, inl, inr, refl, arith}
 use Rattle.std.proofs.lemmas.List.{get_or-replicate, length-replicate}
 use Rattle.std.proofs.lemmas.Int.{ints}
 use Rattle.gap_instance.specs.Instances.{InstanceValue, IsInstance, AreBetween}
-use Rattle.gap_instance.specs.Limits.{MeetsLimits, IsFirstBroken, TurnsTooMuch}
+use Rattle.gap_instance.specs.Limits.{MeetsLimits, HoldsOutside, IsFirstBroken, TurnsTooMuch}
 use Rattle.gap_instance.specs.declared.keeps.Broken.{Broken}
 use Rattle.gap_instance.specs.declared.keeps.Broken.TheVariants.{Length, Lots, Held, Least, Greatest, Turnover}
 
@@ -11,11 +11,16 @@ use Rattle.gap_instance.specs.declared.keeps.Broken.TheVariants.{Length, Lots, H
 pub turned_not_kept : (I : InstanceValue) (x : List ℕ) → TurnsTooMuch I x → MeetsLimits I x → ⊥
 turned_not_kept I x h k = let a = k.turnover_kept h.0 h.1 in let b = h.2 in omega (arith, ints)
 
+-- a list that holds too few or too many assets does not meet the limits
+pub outside_not_kept : (I : InstanceValue) (x : List ℕ) → HoldsOutside I x → MeetsLimits I x → ⊥
+outside_not_kept I x (inl few) k = let a = k.fewest in omega arith
+outside_not_kept I x (inr many) k = let a = k.many in omega arith
+
 -- a list that breaks a limit does not meet the limits
 pub broken_not_kept : (I : InstanceValue) (x : List ℕ) (b : Broken) → IsFirstBroken I x b → MeetsLimits I x → ⊥
 broken_not_kept I x Length h k = h k.assets_are
 broken_not_kept I x Lots h k = h.1 k.lots_are
-broken_not_kept I x Held h k = h.2 k.held_are
+broken_not_kept I x Held h k = outside_not_kept I x h.2 k
 broken_not_kept I x (Least i) h k = let a = k.least_kept i h.1.below h.1.here.0 in let b = h.1.here.1 in omega arith
 broken_not_kept I x (Greatest i) h k = let a = k.greatest_kept i h.2.below in let b = h.2.here in omega arith
 broken_not_kept I x Turnover h k = turned_not_kept I x h.3 k

@@ -23,7 +23,7 @@ held_of-le (suc n) x = let a = held_of-le n x in let b = one_held (slice_index_o
 
 -- no list meets the limits where fewer lots are to be placed than assets are to be held
 pub held_le_lots : (I : InstanceValue) (x : List ℕ) → MeetsLimits I x → I.held ≤ I.lots
-held_le_lots I x meets = let a = held_of-le I.market.assets x in let b = meets.lots_are in let c = meets.held_are in omega (arith, ints)
+held_le_lots I x meets = let a = held_of-le I.market.assets x in let b = meets.lots_are in let c = meets.fewest in omega (arith, ints)
 
 -- what the first n assets get of a spread of a to each of K and one more to the first r of them
 share : ℕ → ℕ → ℕ → ℕ → ℕ
@@ -94,13 +94,16 @@ held_of-spread n L K x h k l e =
 
 -- the equal spread over the first K assets meets the limits where each least is 1, each greatest is L, no turnover limit
 -- is set, and there are at least as many lots as assets to hold
-pub spread_meets_limits : (I : InstanceValue) (x : List ℕ) → I.held ≤ I.market.assets → 1 ≤ I.held → I.held ≤ I.lots → length x ≡ I.market.assets → ((i : ℕ) → i < I.market.assets → slice_index_or x i 0 ≡ spread_of I.lots I.held i) → ((i : ℕ) → i < I.market.assets → slice_index_or I.least i 0 ≤ 1) → ((i : ℕ) → i < I.market.assets → I.lots ≤ slice_index_or I.greatest i 0) → I.turnover ≡ None → MeetsLimits I x
-spread_meets_limits I x few one enough size is least greatest free =
+pub spread_meets_limits : (I : InstanceValue) (x : List ℕ) → I.held ≤ I.held_most → I.held_most ≤ I.market.assets → 1 ≤ I.held → I.held ≤ I.lots → length x ≡ I.market.assets → ((i : ℕ) → i < I.market.assets → slice_index_or x i 0 ≡ spread_of I.lots I.held i) → ((i : ℕ) → i < I.market.assets → slice_index_or I.least i 0 ≤ 1) → ((i : ℕ) → i < I.market.assets → I.lots ≤ slice_index_or I.greatest i 0) → I.turnover ≡ None → MeetsLimits I x
+spread_meets_limits I x range most one enough size is least greatest free =
+    let few : I.held ≤ I.market.assets = omega arith in
     let total = sum_of-spread I.market.assets I.lots I.held x one few is in
+    let count = held_of-spread I.market.assets I.lots I.held x one few enough is in
     record {
       assets_are = size;
       lots_are = total;
-      held_are = held_of-spread I.market.assets I.lots I.held x one few enough is;
+      fewest = omega arith;
+      many = omega arith;
       least_kept = λ i p q. let l = least i p in omega arith;
       greatest_kept = λ i p. let t = term_le-sum_of I.market.assets i x p in let g = greatest i p in omega (arith, ints);
       turnover_kept = λ t e. let no : None ≡ Some t = sym free ∙ e in cc;

@@ -1,6 +1,6 @@
 -- When a list of lots meets the limits of an instance, and which limit is the first that it breaks.
 -- Source: the constraints of Chang, Meade, Beasley and Sharaiha, in whole lots; the turnover is own to portgap.
-use Rattle.std.specs.Prelude.{◌≡◌, ◌≢◌, ℕ, ◌<◌, ◌≤◌, List, length, slice_index_or, nat_lt, ℤ, pos, ◌-ℤ◌, ◌≤ℤ◌, ◌<ℤ◌, Some}
+use Rattle.std.specs.Prelude.{◌≡◌, ◌≢◌, ℕ, ◌<◌, ◌≤◌, ◌⊎◌, List, length, slice_index_or, nat_lt, ℤ, pos, ◌-ℤ◌, ◌≤ℤ◌, ◌<ℤ◌, Some}
 use Rattle.std.specs.Option.{ForSome}
 use Rattle.gap_base.specs.Lots.{lots_at}
 use Rattle.gap_base.specs.Sums.{sum_below, count_if, abs_z}
@@ -28,16 +28,21 @@ IsBelowLeast I x i = (0 < slice_index_or x i 0) × (slice_index_or x i 0 < slice
 abbrev pub IsAboveGreatest : InstanceValue → List ℕ → ℕ → Type 0
 IsAboveGreatest I x i = slice_index_or I.greatest i 0 < slice_index_or x i 0
 
+-- x holds fewer than K1 or more than K2 assets
+abbrev pub HoldsOutside : InstanceValue → List ℕ → Type 0
+HoldsOutside I x = (held_of I.market.assets x < I.held) ⊎ (I.held_most < held_of I.market.assets x)
+
 -- a turnover limit is set, and the turnover is above it
 abbrev pub TurnsTooMuch : InstanceValue → List ℕ → Type 0
 TurnsTooMuch I x = (t : ℕ) × (I.turnover ≡ Some t) × (pos t <ℤ turnover_of I.market.assets I.present x)
 
--- x meets the limits: a number for each asset, their sum is L, exactly K of them are positive, each positive one is
+-- x meets the limits: a number for each asset, their sum is L, from K1 to K2 of them are positive, each positive one is
 -- from the least to the greatest lots of its asset, and the turnover is at most T where T is set
 pub record MeetsLimits (I : InstanceValue) (x : List ℕ) : Type 0 where
   pub assets_are : length x ≡ I.market.assets
   pub lots_are : sum_of I.market.assets x ≡ pos I.lots
-  pub held_are : held_of I.market.assets x ≡ I.held
+  pub fewest : I.held ≤ held_of I.market.assets x
+  pub many : held_of I.market.assets x ≤ I.held_most
   pub least_kept : (i : ℕ) → i < I.market.assets → 0 < slice_index_or x i 0 → slice_index_or I.least i 0 ≤ slice_index_or x i 0
   pub greatest_kept : (i : ℕ) → i < I.market.assets → slice_index_or x i 0 ≤ slice_index_or I.greatest i 0
   pub turnover_kept : ForSome I.turnover (λ t. turnover_of I.market.assets I.present x ≤ℤ pos t)
@@ -46,7 +51,8 @@ pub record MeetsLimits (I : InstanceValue) (x : List ℕ) : Type 0 where
 pub record CountsAreMet (I : InstanceValue) (x : List ℕ) : Type 0 where
   pub assets_are : length x ≡ I.market.assets
   pub lots_are : sum_of I.market.assets x ≡ pos I.lots
-  pub held_are : held_of I.market.assets x ≡ I.held
+  pub fewest : I.held ≤ held_of I.market.assets x
+  pub many : held_of I.market.assets x ≤ I.held_most
 
 -- asset i is the first of n assets of which P holds
 pub record IsFirstWhere (P : ℕ → Type 0) (n i : ℕ) : Type 0 where
@@ -62,7 +68,7 @@ IsOfNone P n = (k : ℕ) → k < n → P k → ⊥
 abbrev pub IsFirstBroken : InstanceValue → List ℕ → Broken → Type 0
 IsFirstBroken I x Length = length x ≢ I.market.assets
 IsFirstBroken I x Lots = (length x ≡ I.market.assets) × (sum_of I.market.assets x ≢ pos I.lots)
-IsFirstBroken I x Held = (length x ≡ I.market.assets) × (sum_of I.market.assets x ≡ pos I.lots) × (held_of I.market.assets x ≢ I.held)
+IsFirstBroken I x Held = (length x ≡ I.market.assets) × (sum_of I.market.assets x ≡ pos I.lots) × HoldsOutside I x
 IsFirstBroken I x (Least i) = CountsAreMet I x × IsFirstWhere (IsBelowLeast I x) I.market.assets i
 IsFirstBroken I x (Greatest i) = CountsAreMet I x × IsOfNone (IsBelowLeast I x) I.market.assets × IsFirstWhere (IsAboveGreatest I x) I.market.assets i
 IsFirstBroken I x Turnover = CountsAreMet I x × IsOfNone (IsBelowLeast I x) I.market.assets × IsOfNone (IsAboveGreatest I x) I.market.assets × TurnsTooMuch I x

@@ -19,6 +19,7 @@ pub struct Instance {
     market: Market,
     lots: u16,
     held: u16,
+    held_most: u16,
     least: Lots,
     greatest: Lots,
     present: Lots,
@@ -36,6 +37,7 @@ impl Model for Instance {
       market = a.market;
       lots = a.lots;
       held = a.held;
+      held_most = a.held_most;
       least = a.least;
       greatest = a.greatest;
       present = a.present;
@@ -48,6 +50,7 @@ impl Model for Instance {
       market = a.market;
       lots = a.lots;
       held = a.held;
+      held_most = a.held_most;
       least = a.least;
       greatest = a.greatest;
       present = a.present;
@@ -60,7 +63,7 @@ impl Instance {
     /// used. It makes the table of covariances, which costs O(N * N), also of memory. After an error the market is
     /// gone.
     pub fn new(alloc: Global, market: Market, job: &Job) -> Result<Instance, OutOfMemory>
-        requires { AreLimits market.assets job.now.lots job.now.held job.now.least job.now.greatest job.now.present job.now.turnover }
+        requires { AreLimits market.assets job.now.lots job.now.held job.now.held_most job.now.least job.now.greatest job.now.present job.now.turnover }
         ensures { IfOk result (λ inst. inst ≡ instance_of market job.now) }
     {
         let covariances = table_of(alloc, &market)?;
@@ -68,6 +71,7 @@ impl Instance {
             market,
             lots: job.lots,
             held: job.held,
+            held_most: job.held_most,
             least: job.least.copy(),
             greatest: job.greatest.copy(),
             present: job.present.copy(),
@@ -95,13 +99,23 @@ impl Instance {
         self.lots
     }
 
-    /// The number K of assets to hold.
+    /// The least number K1 of assets to hold.
     pub fn held(&self) -> u16
         ensures value { result ≡ self.now.held }
         ensures least { 1 ≤ result }
-        ensures most { result ≤ self.now.market.assets }
+        ensures most { result ≤ self.now.held_most }
+        ensures inside { result ≤ self.now.market.assets }
     {
         self.held
+    }
+
+    /// The greatest number K2 of assets to hold.
+    pub fn held_most(&self) -> u16
+        ensures value { result ≡ self.now.held_most }
+        ensures least { self.now.held ≤ result }
+        ensures most { result ≤ self.now.market.assets }
+    {
+        self.held_most
     }
 
     /// The least lots of asset `i` where it is held.

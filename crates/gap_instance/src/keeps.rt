@@ -2,7 +2,7 @@
 
 ghost use Rattle.std.specs.Prelude.{◌≡◌, ◌≢◌, ℕ, ◌+◌, ◌*◌, ◌<◌, ◌≤◌, ◌↔◌, ℤ, pos, ◌≤ℤ◌, ◌<ℤ◌, length, IsTrue, IsNone, IfNone, IfSome, slice_index_or};
 ghost use Rattle.gap_instance.specs.Instances.{IsInstance};
-ghost use Rattle.gap_instance.specs.Limits.{sum_of, held_of, turnover_of, MeetsLimits, IsFirstBroken, IsBelowLeast, IsAboveGreatest, IsFirstWhere, IsOfNone, TurnsTooMuch};
+ghost use Rattle.gap_instance.specs.Limits.{sum_of, held_of, turnover_of, MeetsLimits, HoldsOutside, IsFirstBroken, IsBelowLeast, IsAboveGreatest, IsFirstWhere, IsOfNone, TurnsTooMuch};
 
 use crate::instance::Instance;
 use gap_base::Lots;
@@ -14,7 +14,7 @@ pub enum Broken {
     Length,
     /// Its sum is not the number of lots.
     Lots,
-    /// Not exactly as many of its numbers are positive as assets are to be held.
+    /// Fewer of its numbers are positive than assets are to be held at least, or more than at most.
     Held,
     /// This asset is held with fewer lots than its least.
     Least(u16),
@@ -38,7 +38,7 @@ impl Instance {
         if total_of(x) != u32::from(self.lots()) {
             return Some(Broken::Lots);
         }
-        if count_held(x) != self.held() {
+        if self.holds_outside(x) {
             return Some(Broken::Held);
         }
         if let Some(i) = self.first_below(x) {
@@ -51,6 +51,15 @@ impl Instance {
             return Some(Broken::Turnover);
         }
         None
+    }
+
+    /// Is the number of held assets outside the range that is to be held?
+    fn holds_outside(&self, x: &Lots) -> bool
+        requires { length x.now ≡ self.now.market.assets }
+        ensures { IsTrue result ↔ HoldsOutside self.now x.now }
+    {
+        let count = count_held(x);
+        count < self.held() || self.held_most() < count
     }
 
     /// The first asset that is held with fewer lots than its least.
@@ -82,11 +91,12 @@ impl Instance {
         None
     }
 
-    /// The sum of the ways from the present lots to the list.
+    /// The sum of the ways from the present lots to the list. Costs O(N).
     #[tactic(auto, using(gap_base::proofs::SumLaws::sum_steps))]
-    fn turnover_to(&self, x: &Lots) -> u32
+    pub fn turnover_to(&self, x: &Lots) -> u32
         requires { length x.now ≡ self.now.market.assets }
-        ensures { pos result ≡ turnover_of self.now.market.assets self.now.present x.now }
+        ensures value { pos result ≡ turnover_of self.now.market.assets self.now.present x.now }
+        ensures small { result ≤ 16776960 }
     {
         let mut total: u32 = 0;
         for place in 0..self.n() {
@@ -107,10 +117,11 @@ impl Instance {
     }
 }
 
-/// The sum of a list.
+/// The sum of a list. Costs O(N).
 #[tactic(auto, using(gap_base::proofs::SumLaws::sum_steps))]
-fn total_of(x: &Lots) -> u32
-    ensures { pos result ≡ sum_of (length x.now) x.now }
+pub fn total_of(x: &Lots) -> u32
+    ensures value { pos result ≡ sum_of (length x.now) x.now }
+    ensures small { result ≤ 16776960 }
 {
     let mut total: u32 = 0;
     for i in 0..x.len() {

@@ -5,8 +5,10 @@
 mod covariances;
 mod instance;
 mod keeps;
+mod order;
 #[cfg(test)]
 mod tests;
 
 pub use instance::Instance;
-pub use keeps::Broken;
+pub use keeps::{Broken, total_of};
+pub use order::{By, Order};

@@ -2,8 +2,8 @@
 
 ghost use Rattle.std.specs.Prelude.{◌≡◌, ℕ, ◌≤◌, [], ◌∷◌, IfSome};
 
-use crate::{Broken, Instance};
-use gap_base::{Job, Lots, Market, OutOfMemory, Weights};
+use crate::{Broken, By, Instance, Order};
+use gap_base::{Job, Lots, Market, OutOfMemory, Weight, Weights};
 use std::alloc::Global;
 use std::test::Fail;
 
@@ -18,16 +18,19 @@ fn three(a: u16, b: u16, c: u16) -> Lots
     list
 }
 
-/// Three assets: 10 lots in 2 assets, least 2, 1 and 1, greatest 8, 9 and 4, and 5, 0 and 3 lots at present.
+/// Three assets: 10 lots in `fewest` to 2 assets, least 2, 1 and 1, greatest 10, 9 and 4, and 5, 0 and 3 lots at present.
 #[tactic(auto, using(crate::proofs::LimitLaws::few_numbers))]
-fn instance(alloc: Global, turnover: Option<u32>) -> Result<Instance, OutOfMemory>
-    requires { IfSome turnover (λ t. t ≤ 3000000) }
+fn instance(alloc: Global, fewest: u16, turnover: Option<u32>) -> Result<Instance, OutOfMemory>
+    requires least { 1 ≤ fewest }
+    requires most { fewest ≤ 2 }
+    requires turnover { IfSome turnover (λ t. t ≤ 3000000) }
 {
     let job = Job {
         lots: 10,
-        held: 2,
+        held: fewest,
+        held_most: 2,
         least: three(2, 1, 1),
-        greatest: three(8, 9, 4),
+        greatest: three(10, 9, 4),
         present: three(5, 0, 3),
         turnover,
         weights: Weights::new(),
@@ -39,7 +42,7 @@ fn instance(alloc: Global, turnover: Option<u32>) -> Result<Instance, OutOfMemor
 
 #[test]
 fn keeps_answers_the_first_broken_limit(rt: HostRuntime) -> Result<(), Fail> {
-    let inst = instance(rt.alloc(), None)?;
+    let inst = instance(rt.alloc(), 2, None)?;
     assert_eq!(rt; inst.keeps(&three(8, 2, 0)), None);
     assert_eq!(rt; inst.keeps(&Lots::zeros(4)), Some(Broken::Length));
     assert_eq!(rt; inst.keeps(&three(8, 1, 0)), Some(Broken::Lots));
@@ -51,8 +54,19 @@ fn keeps_answers_the_first_broken_limit(rt: HostRuntime) -> Result<(), Fail> {
 }
 
 #[test]
+fn a_range_of_held_numbers_takes_both_ends(rt: HostRuntime) -> Result<(), Fail> {
+    let inst = instance(rt.alloc(), 1, None)?;
+    assert_eq!(rt; (inst.held(), inst.held_most()), (1, 2));
+    assert_eq!(rt; inst.keeps(&three(10, 0, 0)), None);
+    assert_eq!(rt; inst.keeps(&three(8, 2, 0)), None);
+    assert_eq!(rt; inst.keeps(&three(5, 4, 1)), Some(Broken::Held));
+    assert_eq!(rt; inst.keeps(&three(0, 0, 10)), Some(Broken::Greatest(2)));
+    Ok(())
+}
+
+#[test]
 fn the_earlier_of_two_broken_limits_is_answered(rt: HostRuntime) -> Result<(), Fail> {
-    let inst = instance(rt.alloc(), None)?;
+    let inst = instance(rt.alloc(), 2, None)?;
     assert_eq!(rt; inst.keeps(&three(9, 0, 0)), Some(Broken::Lots));
     assert_eq!(rt; inst.keeps(&three(10, 0, 0)), Some(Broken::Held));
     assert_eq!(rt; inst.keeps(&three(1, 0, 9)), Some(Broken::Least(0)));
@@ -61,9 +75,28 @@ fn the_earlier_of_two_broken_limits_is_answered(rt: HostRuntime) -> Result<(), F
 
 #[test]
 fn the_turnover_counts_the_lots_of_assets_given_up(rt: HostRuntime) -> Result<(), Fail> {
-    let at_the_limit = instance(rt.alloc(), Some(8))?;
+    let at_the_limit = instance(rt.alloc(), 2, Some(8))?;
     assert_eq!(rt; at_the_limit.keeps(&three(8, 2, 0)), None);
-    let above_it = instance(rt.alloc(), Some(7))?;
+    let above_it = instance(rt.alloc(), 2, Some(7))?;
     assert_eq!(rt; above_it.keeps(&three(8, 2, 0)), Some(Broken::Turnover));
+    Ok(())
+}
+
+/// The assets of an order of at most three, and 9 for each that is missing.
+fn assets(order: &Order) -> (u16, u16, u16) {
+    let at = |k: u16| if k < order.len() { order.get(k) } else { 9 };
+    (at(0), at(1), at(2))
+}
+
+#[test]
+fn orders_by_key_by_least_and_by_greatest(rt: HostRuntime) -> Result<(), Fail> {
+    let w = Weight { p: 1, q: 2 };
+    let inst = instance(rt.alloc(), 2, None)?;
+    assert_eq!(rt; assets(&inst.order(w, By::Key)), (0, 1, 2));
+    assert_eq!(rt; assets(&inst.order(w, By::Least)), (1, 2, 0));
+    assert_eq!(rt; assets(&inst.order(w, By::Greatest)), (0, 1, 2));
+    let turning = instance(rt.alloc(), 2, Some(9))?;
+    assert_eq!(rt; assets(&turning.order(w, By::Key)), (0, 2, 1));
+    assert_eq!(rt; turning.order(w, By::Key).is_empty(), false);
     Ok(())
 }

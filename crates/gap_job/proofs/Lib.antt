@@ -1,2 +1,7 @@
 pub mod Readings
 pub mod Walk
+pub mod RangeLaws
+pub mod Sayings
+pub mod LimitsSaid
+pub mod PresentSaid
+pub mod JobSaid

@@ -10,6 +10,7 @@ use Rattle.gap_job.specs.declared.fault.Key.TheVariants as key
 use Rattle.gap_job.specs.declared.fault.JobFault.{JobFault}
 use Rattle.gap_job.specs.declared.fault.JobFault.TheVariants.{TooLong, NotJson, NotObject, Unknown}
 use Rattle.gap_job.specs.Numbers.{needed, number_or, number_if}
+use Rattle.gap_job.specs.Held.{held_of}
 use Rattle.gap_job.specs.Entries.{limits_of, present_of, weights_of}
 
 infixl 10 ◌>>=◌
@@ -21,7 +22,7 @@ abbrev ◌>>=◌ : {A B : Type 0} → Result A JobFault → (A → Result B JobF
 unfoldable pub job_of : ℕ → Data → Result Job JobFault
 job_of n d = do
   lots ← needed key.Lots 1 10000 (get (codes "lots") d)
-  held ← needed key.Held 1 n (get (codes "held") d)
+  held ← held_of n (get (codes "held") d)
   least ← number_or key.Least 1 lots 1 (get (codes "least") d)
   greatest ← number_or key.Greatest 1 lots lots (get (codes "greatest") d)
   limits ← limits_of n lots least greatest (get (codes "limits") d)
@@ -32,7 +33,8 @@ job_of n d = do
   workers ← number_or key.Workers 1 16 1 (get (codes "workers") d)
   Ok (record {
     lots = lots;
-    held = held;
+    held = held.fewest;
+    held_most = held.most;
     least = limits.least;
     greatest = limits.greatest;
     present = present.lots;

@@ -1,5 +1,7 @@
 //! Why a reading ends without a job.
 
+use thiserror::Error;
+
 /// The keys of a job, in the order in which they are judged.
 #[derive(Clone, Copy, PartialEq, Eq, Debug)]
 pub enum Key {
@@ -35,9 +37,23 @@ pub enum JobFault {
 }
 
 /// Why a reading ends without a job.
-#[derive(Clone, Copy, PartialEq, Eq, Debug)]
+#[derive(Clone, Copy, PartialEq, Eq, Debug, Drop, Error)]
 pub enum JobStop {
+    /// The bytes are no job.
+    #[error("the job file is at fault")]
     Fault(JobFault),
     /// Memory was refused.
+    #[error("out of memory")]
     OutOfMemory,
+}
+
+impl From<JobFault> for JobStop {
+    ghost use Rattle.std.specs.Prelude.{◌≡◌};
+    ghost use Rattle.gap_job.specs.declared.fault.JobStop.TheVariants.{Fault};
+
+    ghost from_gives = { λ fault stop. stop ≡ Fault fault };
+
+    fn from(fault: JobFault) -> JobStop {
+        JobStop::Fault(fault)
+    }
 }

@@ -3,7 +3,9 @@
 
 mod entry;
 mod fault;
+mod held;
 mod job;
+mod law;
 mod limits;
 mod number;
 mod present;
@@ -11,3 +13,4 @@ mod weights;
 
 pub use fault::{JobFault, JobStop, Key};
 pub use job::read_job;
+pub use law::lists_say_what_their_entries_do;

@@ -1,6 +1,6 @@
 //! The limits of each asset.
 
-ghost use Rattle.std.specs.Prelude.{◌≡◌, ℕ, ◌-◌, ◌<◌, ◌≤◌, length, replicate, fold, map, codes, Ok};
+ghost use Rattle.std.specs.Prelude.{◌≡◌, ℕ, ◌-◌, ◌<◌, ◌≤◌, length, fold, map, codes, Ok};
 ghost use Rattle.serde_json.specs.View.{view};
 ghost use Rattle.serde_json.specs.Find.{get};
 ghost use Rattle.gap_job.specs.Entries.{three_of, limits_after, with_limit, limits_of, limits_start};
@@ -19,19 +19,6 @@ pub struct Limits {
     pub named: Lots,
 }
 
-// The list of `n` numbers that are all `v`.
-fn filled(n: u16, v: u16) -> Lots
-    requires least { 2 ≤ n }
-    requires most { n ≤ 256 }
-    ensures { result ≡ replicate n v }
-{
-    let mut numbers = Lots::zeros(n);
-    for i in 0..n {
-        numbers.set(i, v);
-    }
-    numbers
-}
-
 // The limits before the first entry: those for all assets.
 fn start(n: u16, least: u16, greatest: u16) -> Limits
     requires few { 2 ≤ n }
@@ -39,8 +26,8 @@ fn start(n: u16, least: u16, greatest: u16) -> Limits
     ensures { result ≡ limits_start n least greatest }
 {
     Limits {
-        least: filled(n, least),
-        greatest: filled(n, greatest),
+        least: Lots::filled(n, least),
+        greatest: Lots::filled(n, greatest),
         named: Lots::zeros(n),
     }
 }
@@ -80,10 +67,7 @@ fn take_entries(n: u16, lots: u16, limits: Limits, entries: &[Value]) -> Result<
 {
     let mut limits = limits;
     for entry in entries {
-        match take_entry(&mut limits, lots, entry) {
-            Ok(()) => {}
-            Err(fault) => return Err(fault),
-        }
+        take_entry(&mut limits, lots, entry)?;
     }
     Ok(limits)
 }

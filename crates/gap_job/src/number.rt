@@ -1,6 +1,7 @@
 //! Whole numbers in a job.
 
 ghost use Rattle.std.specs.Prelude.{◌≡◌, ℕ, ◌≤◌, IfOk, IfSome};
+ghost use Rattle.std.specs.Option.{ForSome};
 ghost use Rattle.serde_json.specs.View.{view};
 ghost use Rattle.serde_json.specs.Find.{get, at};
 ghost use Rattle.gap_job.specs.Numbers.{number_of, number_at, in_range, needed, number_or, number_if};
@@ -67,7 +68,8 @@ pub fn number_if(
     low: u32,
     high: u32,
 ) -> Result<Option<u32>, JobFault>
-    ensures { result ≡ number_if key low high (get name.now (view object.now)) }
+    ensures value { result ≡ number_if key low high (get name.now (view object.now)) }
+    ensures range { IfOk result (λ o. ForSome o (λ v. (low ≤ v) × (v ≤ high))) }
 {
     match object.get(name) {
         None => Ok(None),

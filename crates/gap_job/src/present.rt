@@ -49,10 +49,7 @@ fn take_entries(n: u16, present: Present, entries: &[Value]) -> Result<Present, 
 {
     let mut present = present;
     for entry in entries {
-        match take_entry(&mut present, entry) {
-            Ok(()) => {}
-            Err(fault) => return Err(fault),
-        }
+        take_entry(&mut present, entry)?;
     }
     Ok(present)
 }

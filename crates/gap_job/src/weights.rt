@@ -47,10 +47,7 @@ fn take_entries(entries: &[Value]) -> Result<Weights, JobFault>
     }
     let mut weights = Weights::new();
     for entry in entries {
-        match take_entry(&mut weights, entry) {
-            Ok(()) => {}
-            Err(fault) => return Err(fault),
-        }
+        take_entry(&mut weights, entry)?;
     }
     Ok(weights)
 }

@@ -5,4 +5,6 @@ pub mod LagLaws
 pub mod LimitLaws
 pub mod LeafLaws
 pub mod SizeLaws
+pub mod PricedLaws
 pub mod BoundLaws
+pub mod LeafSizes

@@ -1,9 +1,9 @@
--- The test of the limits decides them, and the lists that meet them are lists of the root that hold exactly K assets.
+-- The test of the limits decides them, and the lists that meet them are lists of the root that hold from K1 to K2 assets.
 
 use Rattle.std.proofs.Common.{◌≡◌, ℕ, zero, suc, ◌<◌, ◌≤◌, Bool, true, false, ◌&&◌, ◌||◌, cond, ltb, leb, eqb, List, [], ◌∷◌, length, slice_index_or, sum, Option, Some, None, ◌⊎◌, inl, inr, pos, ◌≤ℤ◌, ◌<ℤ◌, refl, sym, ap, ◌∙◌, arith, subst}
 use Rattle.std.proofs.lemmas.Int.{ints}
 use Rattle.std.proofs.lemmas.Bool.Decides.{nat_tests}
-use Rattle.std.proofs.lemmas.Bool.{and_parts, and_from, eqb-true, eq-eqb, leb-true, or_cases, cases_eq, false≢true}
+use Rattle.std.proofs.lemmas.Bool.{and_parts, and_from, eqb-true, eq-eqb, leb-true, le-leb, or_cases, cases_eq, false≢true}
 use Rattle.std.specs.Option.{ForSome}
 use Rattle.gap_base.specs.Sums.{sum_below, count_if, natural_at}
 use Rattle.gap_base.proofs.Lists.{sum_places, count_places}
@@ -64,15 +64,17 @@ range_from (suc v) l u h k = let r = k (omega arith) in grind (arith, nat_tests)
 pub meets_true : (I : InstanceValue) (x : List ℕ) → meets_limits I x ≡ true → MeetsLimits I x
 unfolding meets_limits
 meets_true I x e =
-    let a = and_parts (eqb (length x) I.market.assets) (eqb (sum x) I.lots && (eqb (held_of I.market.assets x) I.held && (all_below I.market.assets (keeps_range I x) && keeps_turnover I I.turnover x))) e in
-    let b = and_parts (eqb (sum x) I.lots) (eqb (held_of I.market.assets x) I.held && (all_below I.market.assets (keeps_range I x) && keeps_turnover I I.turnover x)) a.1 in
-    let c = and_parts (eqb (held_of I.market.assets x) I.held) (all_below I.market.assets (keeps_range I x) && keeps_turnover I I.turnover x) b.1 in
+    let a = and_parts (eqb (length x) I.market.assets) (eqb (sum x) I.lots && ((leb I.held (held_of I.market.assets x) && leb (held_of I.market.assets x) I.held_most) && (all_below I.market.assets (keeps_range I x) && keeps_turnover I I.turnover x))) e in
+    let b = and_parts (eqb (sum x) I.lots) ((leb I.held (held_of I.market.assets x) && leb (held_of I.market.assets x) I.held_most) && (all_below I.market.assets (keeps_range I x) && keeps_turnover I I.turnover x)) a.1 in
+    let c = and_parts (leb I.held (held_of I.market.assets x) && leb (held_of I.market.assets x) I.held_most) (all_below I.market.assets (keeps_range I x) && keeps_turnover I I.turnover x) b.1 in
+    let r = and_parts (leb I.held (held_of I.market.assets x)) (leb (held_of I.market.assets x) I.held_most) c.0 in
     let d = and_parts (all_below I.market.assets (keeps_range I x)) (keeps_turnover I I.turnover x) c.1 in
     let n = eqb-true (length x) I.market.assets a.0 in
     record {
       assets_are = n;
       lots_are = sym (same_sum I.market.assets x n) ∙ ap pos (eqb-true (sum x) I.lots b.0);
-      held_are = eqb-true (held_of I.market.assets x) I.held c.0;
+      fewest = leb-true I.held (held_of I.market.assets x) r.0;
+      many = leb-true (held_of I.market.assets x) I.held_most r.1;
       least_kept = λ i h k. range_least I x i (all_at I.market.assets (keeps_range I x) d.0 i h) k;
       greatest_kept = λ i h. range_greatest I x i (all_at I.market.assets (keeps_range I x) d.0 i h);
       turnover_kept = turnover_true I I.turnover x d.1;
@@ -87,7 +89,7 @@ meets_from I x m =
     let s = same_pos (sum x) I.lots (same_sum I.market.assets x m.assets_are ∙ m.lots_are) in
     and_from (eqb (length x) I.market.assets) _ (eq-eqb _ _ m.assets_are)
     (and_from (eqb (sum x) I.lots) _ (eq-eqb _ _ s)
-    (and_from (eqb (held_of I.market.assets x) I.held) _ (eq-eqb _ _ m.held_are)
+    (and_from (leb I.held (held_of I.market.assets x) && leb (held_of I.market.assets x) I.held_most) _ (and_from (leb I.held (held_of I.market.assets x)) (leb (held_of I.market.assets x) I.held_most) (le-leb _ _ m.fewest) (le-leb _ _ m.many))
     (and_from (all_below I.market.assets (keeps_range I x)) _ (all_from I.market.assets (keeps_range I x) (λ i h. range_from _ _ _ (m.greatest_kept i h) (λ k. m.least_kept i h k)))
     (turnover_from I I.turnover x m.turnover_kept))))
 
@@ -135,8 +137,8 @@ root_in l u v e = in_by (ltb u l) e
 same_held : (I : InstanceValue) (x : List ℕ) → length x ≡ I.market.assets → held_count x ≡ held_of I.market.assets x
 same_held I x e = count_places (λ v. ltb 0 v) x ∙ ap (λ n. count_if n (λ i. ltb 0 (slice_index_or x i 0))) e
 
--- a list that meets the limits is one of the root's, and holds exactly K assets
-pub picked : (I : InstanceValue) (x : List ℕ) → IsInstance I → MeetsLimits I x → IsPick (root_cells I.least I.greatest) I.held x
+-- a list that meets the limits is one of the root's, and holds from K1 to K2 assets
+pub picked : (I : InstanceValue) (x : List ℕ) → IsInstance I → MeetsLimits I x → IsPick (root_cells I.least I.greatest) I.held I.held_most x
 picked I x is m =
     let nl = is.limits_are.least_within.count in
     let nu = is.limits_are.greatest_within.count in
@@ -144,17 +146,19 @@ picked I x is m =
     let n = length-root I.least I.greatest same in
     record {
       inside = in_part_from (root_cells I.least I.greatest) x (n ∙ nl ∙ sym m.assets_are) (λ k h. let g : k < I.market.assets = let e = m.assets_are in omega arith in let j : k < length I.least = omega arith in rw (root-at I.least I.greatest same k j) (root_has (slice_index_or I.least k 0) (slice_index_or I.greatest k 0) (slice_index_or x k 0) (m.greatest_kept k g) (λ p. m.least_kept k g p)));
-      count = same_held I x m.assets_are ∙ m.held_are;
+      few = subst (λ (n : ℕ). I.held ≤ n) (sym (same_held I x m.assets_are)) m.fewest;
+      many = subst (λ (n : ℕ). n ≤ I.held_most) (sym (same_held I x m.assets_are)) m.many;
     }
 
--- a list of the root that holds exactly K assets keeps the limits of the assets
+-- a list of the root that holds from K1 to K2 assets keeps the limits of the assets
 pub record KeepsRanges (I : InstanceValue) (x : List ℕ) : Type 0 where
   pub assets_are : length x ≡ I.market.assets
-  pub held_are : held_of I.market.assets x ≡ I.held
+  pub fewest : I.held ≤ held_of I.market.assets x
+  pub many : held_of I.market.assets x ≤ I.held_most
   pub least_kept : (i : ℕ) → i < I.market.assets → 0 < slice_index_or x i 0 → slice_index_or I.least i 0 ≤ slice_index_or x i 0
   pub greatest_kept : (i : ℕ) → i < I.market.assets → slice_index_or x i 0 ≤ slice_index_or I.greatest i 0
 
-pub pick_keeps : (I : InstanceValue) (x : List ℕ) → IsInstance I → IsPick (root_cells I.least I.greatest) I.held x → KeepsRanges I x
+pub pick_keeps : (I : InstanceValue) (x : List ℕ) → IsInstance I → IsPick (root_cells I.least I.greatest) I.held I.held_most x → KeepsRanges I x
 pick_keeps I x is p =
     let nl = is.limits_are.least_within.count in
     let nu = is.limits_are.greatest_within.count in
@@ -164,7 +168,8 @@ pick_keeps I x is p =
     let each : (k : ℕ) → k < I.market.assets → (slice_index_or x k 0 ≤ slice_index_or I.greatest k 0) × (0 < slice_index_or x k 0 → slice_index_or I.least k 0 ≤ slice_index_or x k 0) = λ k h. root_in (slice_index_or I.least k 0) (slice_index_or I.greatest k 0) (slice_index_or x k 0) (rw (root-at I.least I.greatest same k (omega arith)) at (in_part_at (root_cells I.least I.greatest) x p.inside k (omega arith))) in
     record {
       assets_are = e;
-      held_are = sym (same_held I x e) ∙ p.count;
+      fewest = subst (λ (n : ℕ). I.held ≤ n) (same_held I x e) p.few;
+      many = subst (λ (n : ℕ). n ≤ I.held_most) (same_held I x e) p.many;
       least_kept = λ i h k. (each i h).1 k;
       greatest_kept = λ i h. (each i h).0;
     }
@@ -176,5 +181,5 @@ unmet I x r e s = unmet_by (keeps_turnover I I.turnover x) refl
     unmet_by : (b : Bool) → keeps_turnover I I.turnover x ≡ b → (t : ℕ) × (I.turnover ≡ Some t) × (pos t <ℤ turnover_of I.market.assets I.present x)
     unmet_by false q = turnover_false I I.turnover x q
     unmet_by true q =
-        let m = meets_from I x (record { assets_are = r.assets_are; lots_are = s; held_are = r.held_are; least_kept = r.least_kept; greatest_kept = r.greatest_kept; turnover_kept = turnover_true I I.turnover x q }) in
+        let m = meets_from I x (record { assets_are = r.assets_are; lots_are = s; fewest = r.fewest; many = r.many; least_kept = r.least_kept; greatest_kept = r.greatest_kept; turnover_kept = turnover_true I I.turnover x q }) in
         absurd (false≢true (sym e ∙ m))

@@ -1,8 +1,8 @@
--- The list of picks has exactly the lists of the part that hold exactly k assets.
+-- The list of picks has exactly the lists of the part that hold a number of assets in the range.
 
-use Rattle.std.proofs.Common.{◌≡◌, ℕ, zero, suc, ◌+◌, ◌-◌, ◌<◌, ◌≤◌, Bool, true, false, cond, eqb, List, [], ◌∷◌, ◌++◌, map, filter, flat_map, ◌⊎◌, inl, inr, refl, sym, ap, ◌∙◌, arith}
+use Rattle.std.proofs.Common.{◌≡◌, ℕ, zero, suc, ◌+◌, ◌-◌, ◌<◌, ◌≤◌, Bool, true, false, cond, eqb, leb, ◌&&◌, List, [], ◌∷◌, ◌++◌, map, filter, flat_map, ◌⊎◌, inl, inr, refl, sym, ap, ◌∙◌, arith}
 use Rattle.std.proofs.lemmas.Bool.Decides.{nat_tests}
-use Rattle.std.proofs.lemmas.Bool.{cases_Bool, eqb-true, eq-eqb, cond-true, cond-false, and_parts, and_from}
+use Rattle.std.proofs.lemmas.Bool.{cases_Bool, eqb-true, leb-true, le-leb, cond-true, cond-false, and_parts, and_from}
 use Rattle.gap_box.specs.declared.cell.Cell.{Cell}
 use Rattle.gap_box.specs.declared.cell.Cell.TheVariants.{Out, Held, Free}
 use Rattle.gap_box.specs.Cells.{in_cell}
@@ -149,12 +149,15 @@ filter_in p x (y ∷ xs) h = filter_step p x y xs (λ g. filter_in p x xs g) (ca
     filter_step p x y xs go (inl t) h = kept p x y xs go t (rw (cond-true (p y) (y ∷ filter p xs) (filter p xs) t) at h)
     filter_step p x y xs go (inr t) h = let r = go (rw (cond-false (p y) (y ∷ filter p xs) (filter p xs) t) at h) in (inr r.0, r.1)
 
--- each list of the part that holds exactly k assets is among the picks
-pub picks_has : (cells : List Cell) (k : ℕ) (x : List ℕ) → IsPick cells k x → IsAmong x (picks cells k)
+-- each list of the part that holds a number of assets in the range is among the picks
+pub picks_has : (cells : List Cell) (fewest most : ℕ) (x : List ℕ) → IsPick cells fewest most x → IsAmong x (picks cells fewest most)
 unfolding picks
-picks_has cells k x h = filter_has (λ z. eqb (held_count z) k) x (lists_of cells) (lists_has cells x h.inside) (eq-eqb (held_count x) k h.count)
+picks_has cells fewest most x h = filter_has (λ z. leb fewest (held_count z) && leb (held_count z) most) x (lists_of cells) (lists_has cells x h.inside) (and_from (leb fewest (held_count x)) (leb (held_count x) most) (le-leb fewest (held_count x) h.few) (le-leb (held_count x) most h.many))
 
 -- and no other list
-pub picks_in : (cells : List Cell) (k : ℕ) (x : List ℕ) → IsAmong x (picks cells k) → IsPick cells k x
+pub picks_in : (cells : List Cell) (fewest most : ℕ) (x : List ℕ) → IsAmong x (picks cells fewest most) → IsPick cells fewest most x
 unfolding picks
-picks_in cells k x h = let r = filter_in (λ z. eqb (held_count z) k) x (lists_of cells) h in record { inside = lists_in cells x r.0; count = eqb-true (held_count x) k r.1 }
+picks_in cells fewest most x h =
+    let r = filter_in (λ z. leb fewest (held_count z) && leb (held_count z) most) x (lists_of cells) h in
+    let b = and_parts (leb fewest (held_count x)) (leb (held_count x) most) r.1 in
+    record { inside = lists_in cells x r.0; few = leb-true fewest (held_count x) b.0; many = leb-true (held_count x) most b.1 }

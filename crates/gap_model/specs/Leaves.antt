@@ -84,6 +84,6 @@ tangent_shows (Some t) = AtLeast (sixty_fourth t)
 
 -- what a leaf shows on a part. A theta is None exactly where the count can't be met
 unfoldable pub shows : Setting → List Cell → Leaf → Shown
-shows s part Count = count_shows (can_meet part s.instance.held)
+shows s part Count = count_shows (can_meet part s.instance.held s.instance.held_most)
 shows s part (Void alpha tau third) = cond (is_zero third) (void_shows (void_theta s part alpha tau)) Nothing
 shows s part (Tangent y alpha tau third) = cond (is_zero third) (tangent_shows (theta s part (eighths_at y.now) alpha tau)) Nothing

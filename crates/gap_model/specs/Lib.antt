@@ -5,3 +5,9 @@ pub mod Limits
 pub mod Leaves
 pub mod Order
 pub mod Problems
+pub mod Outcomes
+pub mod Trees
+pub mod Nodes
+pub mod Tight
+pub mod Fronts
+pub mod Priced

@@ -21,4 +21,4 @@ keeps_turnover I (Some t) x = int_le (turnover_of I.market.assets I.present x) (
 
 -- does the list meet the limits of the instance?
 unfoldable pub meets_limits : InstanceValue → List ℕ → Bool
-meets_limits I x = eqb (length x) I.market.assets && (eqb (sum x) I.lots && (eqb (held_of I.market.assets x) I.held && (all_below I.market.assets (keeps_range I x) && keeps_turnover I I.turnover x)))
+meets_limits I x = eqb (length x) I.market.assets && (eqb (sum x) I.lots && ((leb I.held (held_of I.market.assets x) && leb (held_of I.market.assets x) I.held_most) && (all_below I.market.assets (keeps_range I x) && keeps_turnover I I.turnover x)))

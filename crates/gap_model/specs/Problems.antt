@@ -17,10 +17,11 @@ use Rattle.gap_model.specs.Limits.{meets_limits}
 use Rattle.gap_model.specs.Leaves.{in_range, shows, entries_from}
 use Rattle.gap_model.specs.Order.{ShownLe}
 
--- what a search knows of its bound: how many assets are held, the root, which lists meet the limits and what each
--- costs, which leaves are in range, and what a leaf shows on a part
+-- what a search knows of its bound: the fewest and the most assets that may be held, the root, which lists meet
+-- the limits and what each costs, which leaves are in range, and what a leaf shows on a part
 pub record Problem : Type 0 where
-  pub count : ℕ
+  pub fewest : ℕ
+  pub most : ℕ
   pub whole : List Cell
   pub meets : List ℕ → Bool
   pub cost : List ℕ → ℤ
@@ -49,27 +50,30 @@ pub record ShowsExactly (p : Problem) (part : List Cell) (leaf : Leaf) (value : 
   pub exact : p.shows part leaf ≡ AtLeast value
 
 -- what each bound keeps:
--- picked: a list that meets the limits is one of the root, with exactly count positive numbers;
+-- range: the fewest assets are no more than the most;
+-- picked: a list that meets the limits is one of the root, and holds from the fewest to the most assets;
 -- below: on a part that has a list which meets the limits no leaf shows more than that list's cost;
 -- narrower: on a child of a part a leaf shows no less than on the part;
--- exact: where a list that meets the limits is the part's only one with exactly count positive numbers, the tangent at
---   8 times it shows its cost;
+-- exact: where a list that meets the limits is the part's only one that holds from the fewest to the most assets,
+--   the tangent at 8 times it shows its cost;
 -- empty: where the part's only such list doesn't meet the limits, a void leaf with (1, 0), (-1, 0) or (0, 1) shows Empty;
 -- uncounted: where the count can't be met, Count shows Empty;
 -- sizes: the cost of a list that meets the limits is at most 10^30 in size
 pub record IsBound (p : Problem) : Type 0 where
-  pub picked : (x : List ℕ) → p.meets x ≡ true → IsPick p.whole p.count x
+  pub range : p.fewest ≤ p.most
+  pub picked : (x : List ℕ) → p.meets x ≡ true → IsPick p.whole p.fewest p.most x
   pub below : (part : List Cell) (leaf : Leaf) (x : List ℕ) → IsPart p part → p.in_range leaf ≡ true → IsTrue (in_part part x) → p.meets x ≡ true → ShownLe (p.shows part leaf) (AtLeast (p.cost x))
   pub narrower : (part : List Cell) (leaf : Leaf) (split : Split) (side : Side) → IsPart p part → p.in_range leaf ≡ true → IsTrue (lawful_split part split) → ShownLe (p.shows part leaf) (p.shows (child_cells part split side) leaf)
-  pub exact : (part : List Cell) (leaf : Leaf) (x : List ℕ) → IsPart p part → IsSingle part p.count x → p.meets x ≡ true → IsTangentAt x leaf → ShowsExactly p part leaf (p.cost x)
-  pub empty : (part : List Cell) (x : List ℕ) → IsPart p part → IsSingle part p.count x → p.meets x ≡ false → (third : ℤ) × (ShowsEmpty p part (Void (pos 1) (pos 0) third) ⊎ ShowsEmpty p part (Void (negsuc 0) (pos 0) third) ⊎ ShowsEmpty p part (Void (pos 0) (pos 1) third))
-  pub uncounted : (part : List Cell) → IsPart p part → can_meet part p.count ≡ false → ShowsEmpty p part Count
+  pub exact : (part : List Cell) (leaf : Leaf) (x : List ℕ) → IsPart p part → IsSingle part p.fewest p.most x → p.meets x ≡ true → IsTangentAt x leaf → ShowsExactly p part leaf (p.cost x)
+  pub empty : (part : List Cell) (x : List ℕ) → IsPart p part → IsSingle part p.fewest p.most x → p.meets x ≡ false → (third : ℤ) × (ShowsEmpty p part (Void (pos 1) (pos 0) third) ⊎ ShowsEmpty p part (Void (negsuc 0) (pos 0) third) ⊎ ShowsEmpty p part (Void (pos 0) (pos 1) third))
+  pub uncounted : (part : List Cell) → IsPart p part → can_meet part p.fewest p.most ≡ false → ShowsEmpty p part Count
   pub sizes : (x : List ℕ) → p.meets x ≡ true → unsigned_abs (p.cost x) ≤ 1000000000000000000000000000000
 
 -- what a search knows of a tangent bound over an instance, a shift and a weight
 abbrev pub tangent_problem : Setting → Problem
 tangent_problem s = record {
-  count = s.instance.held;
+  fewest = s.instance.held;
+  most = s.instance.held_most;
   whole = root_cells s.instance.least s.instance.greatest;
   meets = meets_limits s.instance;
   cost = objective s.instance s.p s.q;

@@ -9,20 +9,25 @@ use crate::shown::Shown;
 use gap_base::Lots;
 use gap_box::Part;
 
-/// A bound over an instance: how many assets are held, the root, which lists meet the limits, what they cost, and what
+/// A bound over an instance: how many assets may be held, the root, which lists meet the limits, what they cost, and what
 /// a leaf shows on a part. All that it means is one record, `problem`, which keeps the laws of bounds.
 pub trait NodeBound: Drop {
     ghost problem: { Self → Problem };
 
-    /// How many assets are held.
+    /// How many assets are held at least.
     fn held(&self) -> u16
-        ensures { result ≡ (problem self.now).count };
+        ensures { result ≡ (problem self.now).fewest };
+
+    /// How many assets are held at most: no fewer than `held`.
+    fn held_most(&self) -> u16
+        ensures most { result ≡ (problem self.now).most }
+        ensures range { (problem self.now).fewest ≤ (problem self.now).most };
 
     /// The part of all lists between the limits of the assets.
     fn root(&self) -> Part
         ensures { result ≡ (problem self.now).whole };
 
-    /// Does the list meet the limits? Only lists of the root with exactly `held` positive numbers do.
+    /// Does the list meet the limits? Only lists of the root that hold from `held` to `held_most` assets do.
     fn keeps(&self, x: &Lots) -> bool
         ensures { result ≡ (problem self.now).meets x.now };
 

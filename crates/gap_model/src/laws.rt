@@ -1,24 +1,27 @@
 //! The laws of the tangent bound that other crates rest on, as contracts. Nothing is computed here.
 
-ghost use Rattle.std.specs.Prelude.{◌≡◌, ◌≢◌, ◌↔◌, ℕ, ◌<◌, ◌≤◌, List, Option, Some, None, true, false, ℤ, pos, ◌*ℤ◌, ◌≤ℤ◌};
+ghost use Rattle.std.specs.Prelude.{◌≡◌, ◌≢◌, ◌↔◌, ℕ, ◌<◌, ◌≤◌, List, Option, Some, None, true, false, ℤ, pos, ◌*◌, ◌*ℤ◌, ◌≤ℤ◌, sum_by, unsigned_abs};
 ghost use Rattle.std.specs.declared.cmp.Ordering.TheVariants.{Greater};
 ghost use Rattle.gap_base.specs.Lots.{lots_at};
 ghost use Rattle.gap_box.specs.declared.cell.Cell.{Cell};
 ghost use Rattle.gap_box.specs.Cells.{AreCells};
-ghost use Rattle.gap_box.specs.Parts.{can_meet, IsPick};
+ghost use Rattle.gap_base.specs.Sizes.{most_theta, most_bound};
+ghost use Rattle.gap_box.specs.Parts.{can_meet, IsWithin, root_cells};
 ghost use Rattle.gap_instance.specs.Instances.{InstanceValue};
 ghost use Rattle.gap_instance.specs.Limits.{MeetsLimits};
 ghost use Rattle.gap_instance.specs.Objective.{objective};
 ghost use Rattle.gap_model.specs.declared.leaf.Entry.{Entry};
 ghost use Rattle.gap_model.specs.declared.leaf.Leaf.{Leaf};
 ghost use Rattle.gap_model.specs.declared.shown.Shown.{Shown};
+ghost use Rattle.gap_model.specs.declared.shown.Shown.TheVariants.{AtLeast};
 ghost use Rattle.gap_model.specs.Settings.{Setting, IsSetting};
 ghost use Rattle.gap_model.specs.Lagrangian.{lag, void_lag};
 ghost use Rattle.gap_model.specs.Theta.{theta, void_theta, IsTheta, IsVoidTheta};
 ghost use Rattle.gap_model.specs.Limits.{meets_limits};
 ghost use Rattle.gap_model.specs.Order.{ShownLe};
-ghost use Rattle.gap_model.specs.Leaves.{sixty_fourth, ascend, are_multipliers, AreMultipliers, AreEntries};
+ghost use Rattle.gap_model.specs.Leaves.{eighths_at, in_range, shows, sixty_fourth, ascend, are_multipliers, AreMultipliers, AreEntries};
 ghost use Rattle.gap_model.specs.Problems.{IsBound, tangent_problem};
+ghost use Rattle.gap_model.specs.Priced.{PricedProblem, IsPriced, priced_shows, problem_of, tangent_prices};
 
 use crate::leaf::Entry;
 use crate::shown::Shown;
@@ -29,13 +32,13 @@ pub fn shown_order()
     ensures whole { (a b c : Shown) → ShownLe a b → ShownLe b c → ShownLe a c }
 {}
 
-/// Theta is the least of the Lagrangian over the lists of a part that hold exactly K assets: some such list has it and
+/// Theta is the least of the Lagrangian over the lists of a part that hold from K1 to K2 assets: some such list has it and
 /// none has less. There is none exactly where the count can't be met. The same holds of the terms with alpha and tau alone.
 pub fn theta_is_least()
     ensures least { (s : Setting) (cells : List Cell) (y : ℕ → ℤ) (alpha tau t : ℤ) → (theta s cells y alpha tau ≡ Some t) ↔ IsTheta s cells y alpha tau t }
-    ensures none { (s : Setting) (cells : List Cell) (y : ℕ → ℤ) (alpha tau : ℤ) → AreCells cells → (theta s cells y alpha tau ≡ None) ↔ (can_meet cells s.instance.held ≡ false) }
+    ensures none { (s : Setting) (cells : List Cell) (y : ℕ → ℤ) (alpha tau : ℤ) → AreCells cells → s.instance.held ≤ s.instance.held_most → (theta s cells y alpha tau ≡ None) ↔ (can_meet cells s.instance.held s.instance.held_most ≡ false) }
     ensures void_least { (s : Setting) (cells : List Cell) (alpha tau t : ℤ) → (void_theta s cells alpha tau ≡ Some t) ↔ IsVoidTheta s cells alpha tau t }
-    ensures void_none { (s : Setting) (cells : List Cell) (alpha tau : ℤ) → AreCells cells → (void_theta s cells alpha tau ≡ None) ↔ (can_meet cells s.instance.held ≡ false) }
+    ensures void_none { (s : Setting) (cells : List Cell) (alpha tau : ℤ) → AreCells cells → s.instance.held ≤ s.instance.held_most → (void_theta s cells alpha tau ≡ None) ↔ (can_meet cells s.instance.held s.instance.held_most ≡ false) }
 {}
 
 /// The Lagrangian is at most 64 times the objective of each list that meets the limits, and is exactly that at Y = 8x
@@ -56,6 +59,23 @@ pub fn theta_reads_assets()
 pub fn tangent_bound_is_lawful()
     ensures limits { (I : InstanceValue) (x : List ℕ) → (meets_limits I x ≡ true) ↔ MeetsLimits I x }
     ensures laws { (s : Setting) → IsSetting s → IsBound (tangent_problem s) }
+{}
+
+/// Every priced bound keeps the laws of bounds: below, narrower, exact and empty hold for any Lagrangian that is at most
+/// 64 times the cost of each list that meets the limits and exactly that at 8x, and for any void terms that aren't
+/// positive there. The tangent bound is one of them, and its leaves show what their prices show.
+pub fn priced_bound_is_lawful()
+    ensures laws { (p : PricedProblem) → IsPriced p → IsBound (problem_of p) }
+    ensures tangent { (s : Setting) → IsSetting s → IsPriced (tangent_prices s) }
+    ensures shown { (s : Setting) (part : List Cell) (leaf : Leaf) → priced_shows (tangent_prices s) part leaf ≡ shows s part leaf }
+{}
+
+/// Over a part of the root and with multipliers in range, theta and void theta are at most `most_theta` in size, below
+/// 10^37, and the number that a leaf in range shows is at most `most_bound`, below 10^36.
+pub fn leaf_sizes()
+    ensures theta { (s : Setting) (part : List Cell) (y : List Entry) (alpha tau t : ℤ) → IsSetting s → IsWithin part (root_cells s.instance.least s.instance.greatest) → sum_by (λ (e : Entry). e.eighths) y ≤ 8 * s.instance.lots → AreMultipliers s.instance.turnover alpha tau → theta s part (eighths_at y) alpha tau ≡ Some t → unsigned_abs t ≤ most_theta }
+    ensures void_theta { (s : Setting) (part : List Cell) (alpha tau t : ℤ) → IsSetting s → IsWithin part (root_cells s.instance.least s.instance.greatest) → AreMultipliers s.instance.turnover alpha tau → void_theta s part alpha tau ≡ Some t → unsigned_abs t ≤ most_theta }
+    ensures shown { (s : Setting) (part : List Cell) (leaf : Leaf) (v : ℤ) → IsSetting s → IsWithin part (root_cells s.instance.least s.instance.greatest) → in_range s leaf ≡ true → shows s part leaf ≡ AtLeast v → unsigned_abs v ≤ most_bound }
 {}
 
 /// The tests of the multipliers and of the entries of a leaf decide whether they are in range.

@@ -1,3 +1,3 @@
+pub mod ChangeLaws
 pub mod HoldingLaws
 pub mod RiskLaws
-pub mod ShiftLaws

@@ -11,7 +11,7 @@ use Rattle.gap_base.proofs.SumLaws.{sum_same, sum-scale_right, unsigned_abs-sum}
 use Rattle.gap_instance.specs.Instances.{AreBetween}
 use Rattle.gap_instance.specs.Objective.{cov_of, risk_of, return_of}
 use Rattle.gap_instance.proofs.ObjectiveLaws.{cov_of-size}
-use Rattle.gap_objective.specs.Shifts.{row_of}
+use Rattle.gap_objective.specs.Slopes.{row_of}
 
 -- the factors of a term in another order
 turned : (c a b : ℤ) → c *ℤ a *ℤ b ≡ c *ℤ b *ℤ a

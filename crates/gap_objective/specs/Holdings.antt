@@ -1,8 +1,10 @@
 -- What contracts see of a holding. Own to portgap.
-use Rattle.std.specs.Prelude.{◌≡◌, ℕ, ◌≤◌, List, ℤ, unsigned_abs}
+use Rattle.std.specs.Prelude.{◌≡◌, ℕ, ◌<◌, ◌≤◌, List, length, slice_index_or, ℤ}
+use Rattle.gap_base.specs.Sums.{at}
 use Rattle.gap_base.specs.declared.weight.Weight.{Weight}
-use Rattle.gap_instance.specs.Instances.{InstanceValue, AreBetween}
-use Rattle.gap_instance.specs.Objective.{risk_of, return_of}
+use Rattle.gap_instance.specs.Instances.{InstanceValue, IsInstance, AreBetween}
+use Rattle.gap_instance.specs.Objective.{objective}
+use Rattle.gap_objective.specs.Slopes.{slope_of}
 
 -- a list of lots, with the instance and the weight by which its objective is taken
 pub record HoldingValue : Type 0 where
@@ -10,11 +12,22 @@ pub record HoldingValue : Type 0 where
   pub weight : Weight
   pub lots : List ℕ
 
--- what a holding keeps: a number of at most 10000 for each asset, and the risk and the return of the list, with their
--- greatest sizes
-pub record IsKept (I : InstanceValue) (x : List ℕ) (risk ret : ℤ) : Type 0 where
+-- the slopes of the objective at all assets are kept
+abbrev pub AreSlopes : InstanceValue → ℕ → ℕ → List ℕ → List ℤ → Type 0
+AreSlopes I p q x slopes = (k : ℕ) → k < I.market.assets → at slopes k ≡ slope_of I p q x k
+
+-- what a holding keeps: a number of at most 10000 for each asset, the slopes of the objective, and the objective
+pub record IsKept (I : InstanceValue) (p q : ℕ) (x : List ℕ) (slopes : List ℤ) (value : ℤ) : Type 0 where
+  pub risk_weight : p ≤ 255
+  pub whole_weight : q ≤ 255
+  pub instance_is : IsInstance I
   pub lots_are : AreBetween I.market.assets 0 10000 x
-  pub risk_is : risk ≡ risk_of I.market x
-  pub return_is : ret ≡ return_of I.market x
-  pub risk_small : unsigned_abs risk ≤ 6553600000000000000000000000000
-  pub return_small : unsigned_abs ret ≤ 2560000000000
+  pub room : length slopes ≡ 256
+  pub slopes_are : AreSlopes I p q x slopes
+  pub value_is : value ≡ objective I p q x
+
+-- the first k numbers of y are those of x, the others are 0, and there are as many
+pub record IsFront (x : List ℕ) (k : ℕ) (y : List ℕ) : Type 0 where
+  pub size : length y ≡ length x
+  pub below : (i : ℕ) → i < k → slice_index_or y i 0 ≡ slice_index_or x i 0
+  pub above : (i : ℕ) → k ≤ i → slice_index_or y i 0 ≡ 0

@@ -1,2 +1,2 @@
 pub mod Holdings
-pub mod Shifts
+pub mod Slopes

@@ -1,29 +1,30 @@
-//! The objective of a list of lots that changes in two places at a time.
+//! The objective of a list of lots that changes a few places at a time.
 
-ghost use Rattle.std.specs.Prelude.{◌≡◌, ◌≢◌, ℕ, ◌+◌, ◌-◌, ◌*◌, ◌<◌, ◌≤◌, List, ℤ, pos, ◌+ℤ◌, ◌-ℤ◌, ◌*ℤ◌, slice_index_or, slice_set, unsigned_abs};
-ghost use Rattle.gap_base.specs.Markets.{mean_of};
+ghost use Rattle.std.specs.Prelude.{◌≡◌, ◌≢◌, ℕ, ◌+◌, ◌-◌, ◌*◌, ◌<◌, ◌≤◌, List, length, ℤ, pos, ◌+ℤ◌, ◌-ℤ◌, ◌*ℤ◌, replicate, slice_index_or, slice_set, unsigned_abs};
+ghost use Rattle.gap_base.specs.Lots.{lots_at};
+ghost use Rattle.gap_base.specs.Sums.{at};
 ghost use Rattle.gap_instance.specs.Instances.{AreBetween, IsInstance};
-ghost use Rattle.gap_instance.specs.Objective.{cov_of, risk_of, return_of, objective};
-ghost use Rattle.gap_instance.specs.Neighbours.{lot_moved, exchanged};
-ghost use Rattle.gap_objective.specs.Shifts.{row_of, risk_change};
+ghost use Rattle.gap_instance.specs.Objective.{cov_of, objective};
+ghost use Rattle.gap_instance.specs.Neighbours.{lot_moved, lots_shifted, exchanged};
+ghost use Rattle.gap_objective.specs.Slopes.{slope_of, spread_of, AreShiftedBelow};
+ghost use Rattle.gap_objective.specs.Holdings.{AreSlopes};
 
-use crate::terms::{joined, means_apart, plus, spread, square, times, twice_apart};
-use crate::totals::{ret, risk, row};
+use crate::terms::{bend, change, first_slope, reached, scale, shifted, spread, steepness};
 use gap_base::{Lots, Weight};
 use gap_instance::Instance;
 use std::marker::Model;
 
 /// A list of N numbers of lots of at most 10000 with its objective under a weight. Places of assets count from 0.
 ///
-/// Contracts see a holding as the record of its instance, its weight and its list. It keeps the list's risk and return,
-/// so that a change in two places costs O(N). It takes no memory.
+/// Contracts see a holding as the record of its instance, its weight and its list. It keeps the objective and its slope
+/// at each asset: so the objective after a change of two places costs O(1), and the change O(N). It takes no memory.
 #[derive(Drop)]
 pub struct Holding<'m> {
     inst: &'m Instance,
     weight: Weight,
     lots: Lots,
-    risk: i128,
-    ret: i128,
+    slopes: [i128; 256],
+    value: i128,
 }
 
 impl<'m> Model for Holding<'m> {
@@ -33,21 +34,34 @@ impl<'m> Model for Holding<'m> {
 
     ghost view = { λ a. record { instance = a.inst.now; weight = a.weight; lots = a.lots } };
 
-    ghost invariant = { λ a. IsKept a.inst.now a.lots a.risk a.ret };
+    ghost invariant = { λ a. IsKept a.inst.now a.weight.p a.weight.q a.lots a.slopes a.value };
 }
 
 impl<'m> Holding<'m> {
-    /// The list `x` of N numbers of at most 10000 under the weight `w`. Costs O(N * N).
+    /// The list `x` of N numbers of at most 10000 under the weight `w`. Costs O(N) for each asset that it holds.
     pub fn new(inst: &'m Instance, w: Weight, x: &Lots) -> Holding<'m>
         requires { AreBetween inst.now.market.assets 0 10000 x.now }
         ensures { result ≡ record { instance = inst.now; weight = w; lots = x.now } }
     {
+        let mut holding = Holding::nothing(inst, w);
+        for i in 0..x.len() {
+            if 0 < x.get(i) {
+                holding.put(i, x.get(i));
+            }
+        }
+        holding
+    }
+
+    /// The list that holds nothing.
+    fn nothing(inst: &'m Instance, w: Weight) -> Holding<'m>
+        ensures { result ≡ record { instance = inst.now; weight = w; lots = replicate inst.now.market.assets 0 } }
+    {
         Holding {
             inst,
             weight: w,
-            lots: x.copy(),
-            risk: risk(inst, x),
-            ret: ret(inst, x),
+            lots: Lots::zeros(inst.n()),
+            slopes: first_slopes(inst, w.p, w.q),
+            value: 0,
         }
     }
 
@@ -69,17 +83,100 @@ impl<'m> Holding<'m> {
     pub fn lots(&self) -> &Lots
         ensures value { result.now ≡ self.now.lots }
         ensures lots { AreBetween self.now.instance.market.assets 0 10000 self.now.lots }
+        ensures instance { IsInstance self.now.instance }
     {
         &self.lots
     }
 
     /// The objective of the present list. Costs O(1).
-    #[tactic(auto, unfolding(gap_instance::specs::Objective::objective))]
     pub fn value(&self) -> i128
         ensures value { result ≡ objective self.now.instance self.now.weight.p self.now.weight.q self.now.lots }
         ensures small { unsigned_abs result ≤ 2000000000000000000000000000000000 }
     {
-        joined(self.weight, self.inst.lots(), self.risk, self.ret)
+        self.value
+    }
+
+    /// The slope of the objective at asset `i`.
+    fn slope(&self, i: u16) -> i128
+        requires { i < self.now.instance.market.assets }
+        ensures value { result ≡ slope_of self.now.instance self.now.weight.p self.now.weight.q self.now.lots i }
+        ensures small { unsigned_abs result ≤ 2000000000000000000000000000 }
+    {
+        self.slopes[usize::from(i)]
+    }
+
+    /// The objective that the list would have with `lots` lots in asset `i`. Costs O(1).
+    pub fn put_value(&self, i: u16, lots: u16) -> i128
+        requires asset { i < self.now.instance.market.assets }
+        requires lots { lots ≤ 10000 }
+        ensures { result ≡ objective self.now.instance self.now.weight.p self.now.weight.q (slice_set self.now.lots i lots) }
+    {
+        let moved = change(lots, self.lots.get(i));
+        let bend = bend(self.weight.p, i128::from(self.inst.cov(i, i)));
+        reached(
+            self.value(),
+            steepness(self.slope(i), 0, bend, moved),
+            moved,
+        )
+    }
+
+    /// The objective that the list would have with `lots` lots moved from asset `i` to asset `j`. Asset `i` must hold as
+    /// many, and asset `j` have room for them below 10000. Costs O(1).
+    pub fn moved_value(&self, i: u16, j: u16, lots: u16) -> i128
+        requires other { i ≢ j }
+        requires first { i < self.now.instance.market.assets }
+        requires second { j < self.now.instance.market.assets }
+        requires from { lots ≤ slice_index_or self.now.lots i 0 }
+        requires to { slice_index_or self.now.lots j 0 + lots ≤ 10000 }
+        ensures { result ≡ objective self.now.instance self.now.weight.p self.now.weight.q (lots_shifted self.now.lots i j lots) }
+    {
+        self.shifted_value(i, j, i32::from(lots))
+    }
+
+    /// The objective that the list would have with the lots of the assets `i` and `j` exchanged. Costs O(1).
+    pub fn exchanged_value(&self, i: u16, j: u16) -> i128
+        requires other { i ≢ j }
+        requires first { i < self.now.instance.market.assets }
+        requires second { j < self.now.instance.market.assets }
+        ensures { result ≡ objective self.now.instance self.now.weight.p self.now.weight.q (exchanged self.now.lots i j) }
+    {
+        let moved = change(self.lots.get(i), self.lots.get(j));
+        self.shifted_value(i, j, moved)
+    }
+
+    /// The objective with `moved` lots moved from asset `i` to asset `j`, where `moved` may be negative.
+    fn shifted_value(&self, i: u16, j: u16, moved: i32) -> i128
+        requires first { i < self.now.instance.market.assets }
+        requires second { j < self.now.instance.market.assets }
+        requires moved { unsigned_abs moved ≤ 10000 }
+        ensures instance { IsInstance self.now.instance }
+        ensures lots { AreBetween self.now.instance.market.assets 0 10000 self.now.lots }
+        ensures value { result ≡ objective self.now.instance self.now.weight.p self.now.weight.q self.now.lots +ℤ ((slope_of self.now.instance self.now.weight.p self.now.weight.q self.now.lots j -ℤ slope_of self.now.instance self.now.weight.p self.now.weight.q self.now.lots i) +ℤ (pos self.now.weight.p *ℤ spread_of self.now.instance.market i j) *ℤ moved) *ℤ moved }
+    {
+        let spread = spread(
+            self.inst.cov(i, i),
+            self.inst.cov(j, j),
+            self.inst.cov(i, j),
+        );
+        let bend = bend(self.weight.p, spread);
+        reached(
+            self.value(),
+            steepness(self.slope(j), self.slope(i), bend, moved),
+            moved,
+        )
+    }
+
+    /// Gives asset `i` the lots `lots`; the others stay. Costs O(N).
+    pub fn put(&mut self, i: u16, lots: u16)
+        requires asset { i < self.old.instance.market.assets }
+        requires lots { lots ≤ 10000 }
+        ensures { self.new ≡ record self.old { lots = slice_set self.old.lots i lots } }
+    {
+        let value = self.put_value(i, lots);
+        let moved = change(lots, self.lots.get(i));
+        shift(&mut self.slopes, self.inst, i, scale(self.weight.p, moved));
+        self.lots.set(i, lots);
+        self.value = value;
     }
 
     /// Moves one lot from asset `i` to asset `j`. Asset `i` must hold one, and asset `j` fewer than 10000. Costs O(N).
@@ -92,7 +189,8 @@ impl<'m> Holding<'m> {
     {
         let from = self.lots.get(i);
         let to = self.lots.get(j);
-        self.put(i, from - 1, j, to + 1, 1);
+        self.put(i, from - 1);
+        self.put(j, to + 1);
     }
 
     /// Exchanges the lots of the assets `i` and `j`. Costs O(N).
@@ -104,52 +202,36 @@ impl<'m> Holding<'m> {
     {
         let from = self.lots.get(i);
         let to = self.lots.get(j);
-        self.put(i, to, j, from, i32::from(from) - i32::from(to));
-    }
-
-    /// Gives asset `i` the lots `from` and asset `j` the lots `to`, which are `moved` lots moved from `i` to `j`.
-    fn put(&mut self, i: u16, from: u16, j: u16, to: u16, moved: i32)
-        requires other { i ≢ j }
-        requires first { i < self.old.instance.market.assets }
-        requires second { j < self.old.instance.market.assets }
-        requires from { from ≤ 10000 }
-        requires to { to ≤ 10000 }
-        requires moved { unsigned_abs moved ≤ 10000 }
-        requires given { pos from ≡ pos (slice_index_or self.old.lots i 0) -ℤ moved }
-        requires taken { pos to ≡ pos (slice_index_or self.old.lots j 0) +ℤ moved }
-        ensures { self.new ≡ record self.old { lots = slice_set (slice_set self.old.lots i from) j to } }
-    {
-        let risk = plus(self.risk, risk_change(self.inst, &self.lots, i, j, moved));
-        let ret = plus(self.ret, return_change(self.inst, i, j, moved));
-        self.lots.set(i, from);
-        self.lots.set(j, to);
-        self.risk = risk;
-        self.ret = ret;
+        self.put(i, to);
+        self.put(j, from);
     }
 }
 
-/// The change of the risk of a list by a move of `moved` lots from asset `i` to asset `j`. Costs O(N).
-fn risk_change(inst: &Instance, x: &Lots, i: u16, j: u16, moved: i32) -> i128
-    requires first { i < inst.now.market.assets }
-    requires second { j < inst.now.market.assets }
-    requires lots { AreBetween inst.now.market.assets 0 10000 x.now }
-    requires moved { unsigned_abs moved ≤ 10000 }
+/// The slopes of the objective of the list that holds nothing.
+fn first_slopes(inst: &Instance, p: u8, q: u8) -> [i128; 256]
+    ensures slopes { AreSlopes inst.now p q (replicate inst.now.market.assets 0) result }
+    ensures room { length result ≡ 256 }
     ensures instance { IsInstance inst.now }
-    ensures value { result ≡ risk_change (row_of inst.now.market x.now j) (row_of inst.now.market x.now i) (cov_of inst.now.market i i) (cov_of inst.now.market j j) (cov_of inst.now.market i j) moved }
-    ensures small { unsigned_abs result ≤ 4000000000000000000000000000000000 }
+    ensures risk { p ≤ 255 }
+    ensures whole { q ≤ 255 }
 {
-    let rows = twice_apart(row(inst, x, j), row(inst, x, i));
-    let spread = spread(inst.cov(i, i), inst.cov(j, j), inst.cov(i, j));
-    plus(times(rows, moved), times(spread, square(moved)))
+    let mut slopes = [0; 256];
+    for i in 0..inst.n() {
+        slopes[usize::from(i)] = first_slope(p, q, inst.lots(), inst.mean(i));
+    }
+    slopes
 }
 
-/// The change of the return of a list by a move of `moved` lots from asset `i` to asset `j`.
-fn return_change(inst: &Instance, i: u16, j: u16, moved: i32) -> i128
-    requires first { i < inst.now.market.assets }
-    requires second { j < inst.now.market.assets }
-    requires moved { unsigned_abs moved ≤ 10000 }
-    ensures value { result ≡ (mean_of inst.now.market j -ℤ mean_of inst.now.market i) *ℤ moved }
-    ensures small { unsigned_abs result ≤ 2000000000000000000000000000000000 }
+/// Shifts each slope by the covariance of its asset with asset `i` times `scale`.
+fn shift(slopes: &mut [i128; 256], inst: &Instance, i: u16, scale: i64)
+    requires asset { i < inst.now.market.assets }
+    requires slopes { (k : ℕ) → k < inst.now.market.assets → unsigned_abs (at slopes.old k) ≤ 2000000000000000000000000000 }
+    requires scale { unsigned_abs scale ≤ 5100000 }
+    ensures shifted { AreShiftedBelow inst.now.market i inst.now.market.assets scale slopes.old slopes.new }
+    ensures room { length slopes.new ≡ 256 }
 {
-    times(means_apart(inst.mean(j), inst.mean(i)), moved)
+    for j in 0..inst.n() {
+        let place = usize::from(j);
+        slopes[place] = shifted(slopes[place], inst.cov(j, i), scale);
+    }
 }

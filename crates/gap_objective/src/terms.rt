@@ -73,26 +73,6 @@ pub fn joined(w: Weight, lots: u16, risk: i128, ret: i128) -> i128
     of_risk(w.p, risk) - of_return(factor(w, lots), ret)
 }
 
-/// A difference of rows or of covariances times lots moved, or times their square.
-pub fn times(change: i128, moved: i32) -> i128
-    requires change { unsigned_abs change ≤ 20000000000000000000000000 }
-    requires moved { unsigned_abs moved ≤ 100000000 }
-    ensures value { result ≡ change *ℤ moved }
-    ensures small { unsigned_abs result ≤ 2000000000000000000000000000000000 }
-{
-    change * i128::from(moved)
-}
-
-/// Twice the difference of two rows.
-pub fn twice_apart(to: i128, from: i128) -> i128
-    requires to { unsigned_abs to ≤ 2560000000000000000000000 }
-    requires from { unsigned_abs from ≤ 2560000000000000000000000 }
-    ensures value { result ≡ (to -ℤ from) *ℤ pos 2 }
-    ensures small { unsigned_abs result ≤ 20000000000000000000000000 }
-{
-    (to - from) * 2
-}
-
 /// The difference of two covariances.
 fn apart(first: i64, second: i64) -> i64
     requires first { unsigned_abs first ≤ 1000000000000000000 }
@@ -108,7 +88,7 @@ fn joined_apart(first: i64, second: i64) -> i128
     requires first { unsigned_abs first ≤ 2000000000000000000 }
     requires second { unsigned_abs second ≤ 2000000000000000000 }
     ensures value { result ≡ first +ℤ second }
-    ensures small { unsigned_abs result ≤ 20000000000000000000000000 }
+    ensures small { unsigned_abs result ≤ 4000000000000000000 }
 {
     i128::from(first) + i128::from(second)
 }
@@ -119,36 +99,126 @@ pub fn spread(first: i64, second: i64, both: i64) -> i128
     requires second { unsigned_abs second ≤ 1000000000000000000 }
     requires both { unsigned_abs both ≤ 1000000000000000000 }
     ensures value { result ≡ (first -ℤ both) +ℤ (second -ℤ both) }
-    ensures small { unsigned_abs result ≤ 20000000000000000000000000 }
+    ensures small { unsigned_abs result ≤ 4000000000000000000 }
 {
     joined_apart(apart(first, both), apart(second, both))
 }
 
-/// The sum of two changes.
-pub fn plus(first: i128, second: i128) -> i128
-    requires first { unsigned_abs first ≤ 4000000000000000000000000000000000 }
-    requires second { unsigned_abs second ≤ 4000000000000000000000000000000000 }
-    ensures value { result ≡ first +ℤ second }
-    ensures small { unsigned_abs result ≤ unsigned_abs first + unsigned_abs second }
+/// How much the slope changes with each lot moved: the weight of risk times a covariance or a spread.
+pub fn bend(p: u8, spread: i128) -> i128
+    requires { unsigned_abs spread ≤ 4000000000000000000 }
+    ensures value { result ≡ pos p *ℤ spread }
+    ensures small { unsigned_abs result ≤ 1020000000000000000000 }
 {
-    first + second
+    i128::from(p) * spread
 }
 
-/// The square of lots moved.
-pub fn square(moved: i32) -> i32
+/// The lots that asset has more than before, where fewer are negative.
+pub fn change(lots: u16, before: u16) -> i32
+    requires lots { lots ≤ 10000 }
+    requires before { before ≤ 10000 }
+    ensures value { pos lots ≡ pos before +ℤ result }
+    ensures small { unsigned_abs result ≤ 10000 }
+{
+    i32::from(lots) - i32::from(before)
+}
+
+/// Lots moved times twice the weight of risk.
+fn scaled(moved: i32, twice: u16) -> i64
+    requires moved { unsigned_abs moved ≤ 10000 }
+    requires twice { twice ≤ 510 }
+    ensures value { result ≡ moved *ℤ pos twice }
+    ensures small { unsigned_abs result ≤ 5100000 }
+{
+    i64::from(moved) * i64::from(twice)
+}
+
+/// Lots moved times twice the weight `p` of risk.
+pub fn scale(p: u8, moved: i32) -> i64
     requires { unsigned_abs moved ≤ 10000 }
-    ensures value { result ≡ moved *ℤ moved }
-    ensures small { unsigned_abs result ≤ 100000000 }
+    ensures value { result ≡ moved *ℤ pos (2 * p) }
+    ensures small { unsigned_abs result ≤ 5100000 }
 {
-    moved * moved
+    scaled(moved, 2 * u16::from(p))
 }
 
-/// The difference of two mean returns.
-pub fn means_apart(to: i32, from: i32) -> i128
-    requires to { unsigned_abs to ≤ 1000000 }
-    requires from { unsigned_abs from ≤ 1000000 }
-    ensures value { result ≡ to -ℤ from }
-    ensures small { unsigned_abs result ≤ 20000000000000000000000000 }
+/// The change of a slope by lots moved: a covariance times them, scaled.
+fn turned(cov: i64, scale: i64) -> i128
+    requires cov { unsigned_abs cov ≤ 1000000000000000000 }
+    requires scale { unsigned_abs scale ≤ 5100000 }
+    ensures value { result ≡ cov *ℤ scale }
+    ensures small { unsigned_abs result ≤ 5100000000000000000000000 }
 {
-    i128::from(to) - i128::from(from)
+    i128::from(cov) * i128::from(scale)
+}
+
+/// A slope after lots were moved.
+pub fn shifted(slope: i128, cov: i64, scale: i64) -> i128
+    requires slope { unsigned_abs slope ≤ 2000000000000000000000000000 }
+    requires cov { unsigned_abs cov ≤ 1000000000000000000 }
+    requires scale { unsigned_abs scale ≤ 5100000 }
+    ensures { result ≡ slope +ℤ cov *ℤ scale }
+{
+    slope + turned(cov, scale)
+}
+
+/// A bend times lots moved.
+fn bent(bend: i128, moved: i32) -> i128
+    requires bend { unsigned_abs bend ≤ 1020000000000000000000 }
+    requires moved { unsigned_abs moved ≤ 10000 }
+    ensures value { result ≡ bend *ℤ moved }
+    ensures small { unsigned_abs result ≤ 10200000000000000000000000 }
+{
+    bend * i128::from(moved)
+}
+
+/// The mean slope on the way of the lots moved, from the slopes before and the bend.
+pub fn steepness(to: i128, from: i128, bend: i128, moved: i32) -> i128
+    requires to { unsigned_abs to ≤ 2000000000000000000000000000 }
+    requires from { unsigned_abs from ≤ 2000000000000000000000000000 }
+    requires bend { unsigned_abs bend ≤ 1020000000000000000000 }
+    requires moved { unsigned_abs moved ≤ 10000 }
+    ensures value { result ≡ (to -ℤ from) +ℤ bend *ℤ moved }
+    ensures small { unsigned_abs result ≤ 5000000000000000000000000000 }
+{
+    to - from + bent(bend, moved)
+}
+
+/// The mean slope times lots moved.
+fn climbed(steepness: i128, moved: i32) -> i128
+    requires steepness { unsigned_abs steepness ≤ 5000000000000000000000000000 }
+    requires moved { unsigned_abs moved ≤ 10000 }
+    ensures value { result ≡ steepness *ℤ moved }
+    ensures small { unsigned_abs result ≤ 50000000000000000000000000000000 }
+{
+    steepness * i128::from(moved)
+}
+
+/// An objective after lots were moved on a way of this mean slope.
+pub fn reached(value: i128, steepness: i128, moved: i32) -> i128
+    requires value { unsigned_abs value ≤ 2000000000000000000000000000000000 }
+    requires steepness { unsigned_abs steepness ≤ 5000000000000000000000000000 }
+    requires moved { unsigned_abs moved ≤ 10000 }
+    ensures { result ≡ value +ℤ steepness *ℤ moved }
+{
+    value + climbed(steepness, moved)
+}
+
+/// The slope at an asset of a list that holds nothing.
+pub fn first_slope(p: u8, q: u8, lots: u16, mean: i32) -> i128
+    requires lots { lots ≤ 10000 }
+    requires mean { unsigned_abs mean ≤ 1000000 }
+    ensures { result ≡ pos 0 -ℤ (pos ((q - p) * 1000000000000 * lots) *ℤ mean) }
+{
+    -lost(factor(Weight { p, q }, lots), mean)
+}
+
+/// A mean return times what it is scaled by.
+fn lost(factor: u64, mean: i32) -> i128
+    requires factor { factor ≤ 2550000000000000000 }
+    requires mean { unsigned_abs mean ≤ 1000000 }
+    ensures value { result ≡ pos factor *ℤ mean }
+    ensures small { unsigned_abs result ≤ 2550000000000000000000000 }
+{
+    i128::from(factor) * i128::from(mean)
 }

@@ -31,6 +31,7 @@ fn instance(alloc: Global) -> Result<Instance, OutOfMemory>
     let job = Job {
         lots: 10,
         held: 2,
+        held_most: 2,
         least: two(1, 1),
         greatest: two(10, 10),
         present: two(0, 0),
@@ -48,8 +49,11 @@ fn holding_follows_a_move_and_an_exchange(rt: HostRuntime) -> Result<(), Fail> {
     let inst = instance(rt.alloc())?;
     let mut holding = Holding::new(&inst, Weight { p: 1, q: 2 }, &two(8, 2));
     assert_eq!(rt; holding.value(), 680_000_000_000_000_000);
+    assert_eq!(rt; holding.moved_value(0, 1, 1), 720_000_000_000_000_000);
+    assert_eq!(rt; holding.put_value(1, 0), 560_000_000_000_000_000);
     holding.move_lot(0, 1);
     assert_eq!(rt; holding.value(), 720_000_000_000_000_000);
+    assert_eq!(rt; holding.exchanged_value(0, 1), 1_880_000_000_000_000_000);
     holding.exchange(0, 1);
     assert_eq!(rt; holding.value(), 1_880_000_000_000_000_000);
     assert_eq!(rt; (holding.lots().get(0), holding.lots().get(1)), (3, 7));

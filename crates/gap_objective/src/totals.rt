@@ -3,14 +3,14 @@
 ghost use Rattle.std.specs.Prelude.{◌≡◌, ℕ, ◌≤◌, ◌<◌, length, slice_index_or, unsigned_abs};
 ghost use Rattle.gap_instance.specs.Instances.{AreBetween, IsInstance};
 ghost use Rattle.gap_instance.specs.Objective.{risk_of, return_of, objective};
-ghost use Rattle.gap_objective.specs.Shifts.{row_of};
+ghost use Rattle.gap_objective.specs.Slopes.{row_of};
 
 use crate::terms::{earned, joined, share, weighted};
 use gap_base::{Lots, Weight};
 use gap_instance::Instance;
 
 /// Row `i` of the covariances times the list. Costs O(N).
-#[tactic(auto, using(gap_base::proofs::SumLaws::sum_steps), unfolding(crate::specs::Shifts::row_of))]
+#[tactic(auto, using(gap_base::proofs::SumLaws::sum_steps), unfolding(crate::specs::Slopes::row_of))]
 pub fn row(inst: &Instance, x: &Lots, i: u16) -> i128
     requires inside { i < inst.now.market.assets }
     requires lots { AreBetween inst.now.market.assets 0 10000 x.now }

@@ -25,7 +25,7 @@ use Rattle.gap_orlib.proofs.FaultLaws.{says_sound}
 use Rattle.gap_orlib.proofs.FaultFound.{fault_item}
 
 -- what tokens said, or which of them is at fault
-Tracked : List Token → Result (Option Sheet) PortFault → Type 0
+pub Tracked : List Token → Result (Option Sheet) PortFault → Type 0
 Tracked ts (Err f) = IsTokenFault ts f
 Tracked ts (Ok None) = ts ≡ []
 Tracked ts (Ok (Some s)) = Says ts s
@@ -81,7 +81,7 @@ tracked_all (x ∷ xs) ts r h =
     let e : ts ++ x ∷ xs ≡ (ts ++ x ∷ []) ++ xs = sym (append_assoc ts (x ∷ []) xs) in
     subst (λ (l : List Token). Tracked l (fold judged_one (judged_one r x) xs)) (sym e) (tracked_all xs (ts ++ x ∷ []) (judged_one r x) (tracked_one ts x r h))
 
-tracked : (ts : List Token) → Tracked ts (judged ts)
+pub tracked : (ts : List Token) → Tracked ts (judged ts)
 unfolding judged Tracked
 tracked ts = tracked_all ts [] (Ok None) refl
 
@@ -101,7 +101,7 @@ by_kind TooLong bytes f ts k a h = absurd a
 none_sound : (ts : List Token) → ts ≡ [] → AreSound ts (length ts)
 none_sound ts e = λ l kind h f. absurd (let z : length ts ≡ 0 = rw e refl in omega arith)
 
-sheet_sound : (ts : List Token) (o : Option Sheet) → Tracked ts (Ok o) → AreSound ts (length ts)
+pub sheet_sound : (ts : List Token) (o : Option Sheet) → Tracked ts (Ok o) → AreSound ts (length ts)
 unfolding Tracked
 sheet_sound ts None h = none_sound ts h
 sheet_sound ts (Some s) h = says_sound ts s h

@@ -14,3 +14,6 @@ pub mod FaultFound
 pub mod FirstFault
 pub mod Words
 pub mod Fronts
+pub mod SameMarket
+pub mod OneKind
+pub mod OneFault

@@ -74,3 +74,12 @@ pub record IsMarketOf (bytes : List ℕ) (m : MarketValue) : Type 0 where
   pub each_triple : (t : ℕ) → t < triples → (i : ℕ) × (j : ℕ) × IsTriple (tokens bytes) m.assets t i j (rho_of m i j)
   pub each_pair : (i j : ℕ) → i < j → j < m.assets → (t : ℕ) × NamesPair (tokens bytes) m.assets t i j (rho_of m i j)
   pub rounded : m.rounded ≡ count_if (length (tokens bytes)) (is_rounded (tokens bytes) m.assets)
+
+-- two markets have the same values: the same assets, means, deviations and correlations of each two, and as many rounded
+-- numerals; the diagonal of the correlations stands for nothing. Own to portgap.
+pub record HaveSameValues (m k : MarketValue) : Type 0 where
+  pub assets : m.assets ≡ k.assets
+  pub means : (i : ℕ) → i < m.assets → mean_of m i ≡ mean_of k i
+  pub deviations : (i : ℕ) → i < m.assets → deviation_of m i ≡ deviation_of k i
+  pub rhos : (i j : ℕ) → i < m.assets → j < m.assets → rho_of m i j ≡ rho_of k i j
+  pub rounded : m.rounded ≡ k.rounded

@@ -3,6 +3,7 @@
 #![tactic(auto)]
 
 mod fault;
+mod law;
 mod reader;
 mod step;
 mod table;
@@ -10,6 +11,7 @@ mod wanted;
 mod whole;
 
 pub use fault::{PortFault, PortKind, PortStop};
+pub use law::ports_are_read_as_said;
 pub use reader::Reader;
 
 #[cfg(test)]

@@ -46,7 +46,8 @@ impl Reader {
     /// A reader that was fed nothing. Takes no memory.
     #[tactic(auto, unfolding(crate::specs::States::state_of, crate::specs::States::cut, crate::specs::Ports::judged, crate::specs::Ports::kept))]
     pub fn new(alloc: Global) -> Reader
-        ensures { HasRead result [] }
+        ensures read { HasRead result [] }
+        ensures memory { result ≢ no_memory }
     {
         Reader {
             alloc,

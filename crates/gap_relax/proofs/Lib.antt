@@ -1,5 +1,6 @@
+pub mod PartingLaws
+pub mod DifferenceLaws
 pub mod Order
 pub mod Places
 pub mod Prices
-pub mod Within
-pub mod LeastLaws
+pub mod WayLaws

@@ -1,8 +1,8 @@
--- What the tests of order of whole numbers tell, and the gain below a price.
+-- What the tests of order of whole numbers tell.
 
-use Rattle.std.proofs.Common.{◌≡◌, Bool, true, false, if◌then◌else◌, ℤ, pos, ◌-ℤ◌, ◌≤ℤ◌, ◌<ℤ◌, int_lt, unsigned_abs, refl, ap, arith, ◌⊎◌, inl, inr}
+use Rattle.std.proofs.Common.{◌≡◌, Bool, true, false, cond, ℤ, ◌≤ℤ◌, ◌<ℤ◌, int_lt, refl, arith, ◌⊎◌, inl, inr, Less, Equal, Greater}
 use Rattle.std.proofs.lemmas.Int.{ints}
-use Rattle.gap_relax.specs.Differences.{gain}
+use Rattle.std.specs.Ordering.{int_cmp, is_lt}
 
 pub lt_true : (a b : ℤ) → int_lt a b ≡ true → a <ℤ b
 lt_true a b e = grind (arith, ints)
@@ -23,17 +23,9 @@ lt_is a b h = elim (lt_tells a b) [ inl p ↦ p.0 | inr p ↦ let q = p.1 in abs
 pub lt_not : (a b : ℤ) → b ≤ℤ a → int_lt a b ≡ false
 lt_not a b h = elim (lt_tells a b) [ inl p ↦ let q = p.1 in absurd (omega (arith, ints)) | inr p ↦ p.0 ]
 
-gain_at : (price x : ℤ) (t : Bool) → int_lt x price ≡ t → gain price x ≡ (if t then unsigned_abs (price -ℤ x) else 0)
-gain_at price x t e = ap (λ (q : Bool). if q then unsigned_abs (price -ℤ x) else 0) e
-
--- at or below the price the gain is what is missing to it
-pub gain_low : (price x : ℤ) → x ≤ℤ price → pos (gain price x) ≡ price -ℤ x
-gain_low price x h = elim (lt_tells x price) [ inl p ↦ let e = gain_at price x true p.0 in let q = p.1 in rw e (omega (arith, ints)) | inr p ↦ let e = gain_at price x false p.0 in let q = p.1 in rw e (omega (arith, ints)) ]
-
--- at or above the price it is 0
-pub gain_high : (price x : ℤ) → price ≤ℤ x → gain price x ≡ 0
-gain_high price x h = gain_at price x false (lt_not x price h)
-
--- it is never less than what is missing
-pub gain_least : (price x : ℤ) → (price -ℤ x) ≤ℤ pos (gain price x)
-gain_least price x = elim (lt_tells x price) [ inl p ↦ let q = p.1 in let e = gain_low price x (omega (arith, ints)) in omega (arith, ints) | inr p ↦ let q = p.1 in let e = gain_high price x p.1 in rw e (omega (arith, ints)) ]
+pub cmp_lt : (x y : ℤ) → is_lt (int_cmp x y) ≡ int_lt x y
+cmp_lt x y = by_tests (int_lt x y) (int_lt y x) where
+  by_tests : (s t : Bool) → is_lt (cond s Less (cond t Greater Equal)) ≡ s
+  by_tests true t = refl
+  by_tests false true = refl
+  by_tests false false = refl

@@ -1,2 +1,3 @@
 pub mod Choices
 pub mod Differences
+pub mod Partings

@@ -1,12 +1,12 @@
-pub mod OneAsset
-pub mod Separable
 pub mod TermLaws
 pub mod TableLaws
-pub mod Priced
 pub mod SettingLaws
 pub mod RowLaws
 pub mod SlopeLaws
-pub mod ThetaFrom
+pub mod SizeLaws
+pub mod PointLaws
+pub mod MoveLaws
 pub mod EntryLaws
 pub mod CopyLaws
 pub mod ShownLaws
+pub mod LineLaws

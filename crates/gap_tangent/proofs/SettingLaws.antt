@@ -14,9 +14,7 @@ use Rattle.gap_psd.specs.Shifts.{ShiftValue, IsShift, shifted, IsDominantShift}
 use Rattle.gap_psd.proofs.FormLaws.{form_is}
 use Rattle.gap_psd.proofs.ShiftLaws.{semi_everywhere_of_shift}
 use Rattle.gap_model.specs.Settings.{Setting, IsSetting, shifted_cov, product_of}
-use Rattle.gap_base.specs.Lots.{lots_at}
 use Rattle.gap_tangent.specs.Bounds.{setting_with}
-use Rattle.gap_tangent.specs.Terms.{AreTermsAt, AreSmall}
 
 product_is : (s : Setting) (v w : ℕ → ℤ) → product_of s v w ≡ sum_below s.instance.market.assets (λ i. sum_below s.instance.market.assets (λ j. shifted_cov s i j *ℤ v i *ℤ w j))
 unfolding product_of
@@ -43,14 +41,3 @@ setting_is I sh w is shift e d p q = record {
 -- a part within the root has a cell for each asset
 pub part_count : (I : InstanceValue) (part : List Cell) → IsInstance I → IsWithin part (root_cells I.least I.greatest) → length part ≡ I.market.assets
 part_count I part is w = w.same_length ∙ length-root I.least I.greatest (is.limits_are.least_within.count ∙ sym is.limits_are.greatest_within.count) ∙ is.limits_are.least_within.count
-
--- the terms of a point, where the bound and the point are known by equations
-pub terms_moved : (I J : InstanceValue) (sh th : ShiftValue) (v w : Weight) (y z : List ℕ) (slopes bends : List ℤ) (constant : ℤ) → J ≡ I → th ≡ sh → w ≡ v → z ≡ y → AreTermsAt (setting_with I sh v) (lots_at y) slopes bends constant → AreTermsAt (setting_with J th w) (lots_at z) slopes bends constant
-terms_moved I J sh th v w y z slopes bends constant a b c d h =
-    subst (λ (x : InstanceValue). AreTermsAt (setting_with x th w) (lots_at z) slopes bends constant) (sym a)
-    (subst (λ (x : ShiftValue). AreTermsAt (setting_with I x w) (lots_at z) slopes bends constant) (sym b)
-    (subst (λ (x : Weight). AreTermsAt (setting_with I sh x) (lots_at z) slopes bends constant) (sym c)
-    (subst (λ (x : List ℕ). AreTermsAt (setting_with I sh v) (lots_at x) slopes bends constant) (sym d) h)))
-
-pub small_moved : (I J : InstanceValue) (slopes bends : List ℤ) (constant : ℤ) → J ≡ I → AreSmall I.market.assets slopes bends constant → AreSmall J.market.assets slopes bends constant
-small_moved I J slopes bends constant a h = subst (λ (x : InstanceValue). AreSmall x.market.assets slopes bends constant) (sym a) h

@@ -18,17 +18,6 @@ table_more P xs i v h before here k l = by_place (cases_eq k i)
     by_place (inl e) = subst (λ (j : ℕ). P j (at (slice_set xs i v) j)) (sym e) (subst (λ (z : ℤ). P i z) (sym (at_set_same xs i v h)) here)
     by_place (inr n) = subst (λ (z : ℤ). P k z) (sym (at_set_other xs i k v n)) (before k (omega (arith, n)))
 
--- one more place of two tables
-pub tables_more : (P : ℕ → ℤ → ℤ → Type 0) (xs ys : List ℤ) (i : ℕ) (v w : ℤ) → i < length xs → i < length ys → ((k : ℕ) → k < i → P k (at xs k) (at ys k)) → P i v w → (k : ℕ) → k < i + 1 → P k (at (slice_set xs i v) k) (at (slice_set ys i w) k)
-tables_more P xs ys i v w h g before here k l = by_place (cases_eq k i)
-  where
-    by_place : (k ≡ i) ⊎ (k ≡ i → ⊥) → P k (at (slice_set xs i v) k) (at (slice_set ys i w) k)
-    by_place (inl e) = subst (λ (j : ℕ). P j (at (slice_set xs i v) j) (at (slice_set ys i w) j)) (sym e) (subst (λ (z : ℤ). P i z (at (slice_set ys i w) i)) (sym (at_set_same xs i v h)) (subst (λ (z : ℤ). P i v z) (sym (at_set_same ys i w g)) here))
-    by_place (inr n) = subst (λ (z : ℤ). P k z (at (slice_set ys i w) k)) (sym (at_set_other xs i k v n)) (subst (λ (z : ℤ). P k (at xs k) z) (sym (at_set_other ys i k w n)) (before k (omega (arith, n))))
-
 -- the same where the place that is written is known by an equation
-pub tables_more_at : (P : ℕ → ℤ → ℤ → Type 0) (xs ys : List ℤ) (i j : ℕ) (v w : ℤ) → j ≡ i → i < length xs → i < length ys → ((k : ℕ) → k < i → P k (at xs k) (at ys k)) → P i v w → (k : ℕ) → k < i + 1 → P k (at (slice_set xs j v) k) (at (slice_set ys j w) k)
-tables_more_at P xs ys i j v w e h g before here = subst (λ (m : ℕ). (k : ℕ) → k < i + 1 → P k (at (slice_set xs m v) k) (at (slice_set ys m w) k)) (sym e) (tables_more P xs ys i v w h g before here)
-
 pub table_more_at : (P : ℕ → ℤ → Type 0) (xs : List ℤ) (i j : ℕ) (v : ℤ) → j ≡ i → i < length xs → ((k : ℕ) → k < i → P k (at xs k)) → P i v → (k : ℕ) → k < i + 1 → P k (at (slice_set xs j v) k)
 table_more_at P xs i j v e h before here = subst (λ (m : ℕ). (k : ℕ) → k < i + 1 → P k (at (slice_set xs m v) k)) (sym e) (table_more P xs i v h before here)

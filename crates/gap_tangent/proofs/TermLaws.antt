@@ -14,7 +14,8 @@ use Rattle.gap_model.specs.Settings.{Setting, shifted_cov, product_of}
 use Rattle.gap_model.specs.Lagrangian.{reward_of, rewards_of, squares_of, turnover_term, lag, void_lag}
 use Rattle.gap_model.proofs.LagLaws.{lag_is, void_lag_is}
 use Rattle.gap_model.proofs.FormLaws.{double, product_symmetric}
-use Rattle.gap_tangent.specs.Terms.{tilt_of, slope_of, asset_cost, costs_of, turnover_price, limits_price, AreTermsAt}
+use Rattle.gap_price.specs.Costs.{asset_cost}
+use Rattle.gap_tangent.specs.Terms.{tilt_of, slope_of, costs_of, turnover_price, limits_price, AreTermsAt}
 
 product_is : (s : Setting) (v w : ℕ → ℤ) → product_of s v w ≡ double s.instance.market.assets (λ i j. shifted_cov s i j *ℤ v i *ℤ w j)
 unfolding product_of

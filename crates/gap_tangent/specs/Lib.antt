@@ -1,4 +1,7 @@
 pub mod Bounds
 pub mod Terms
-pub mod Prices
 pub mod Rows
+pub mod Seen
+pub mod Points
+pub mod Lines
+pub mod Curves

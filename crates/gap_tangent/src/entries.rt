@@ -16,7 +16,7 @@ fn entry_at(entries: &[Entry], k: usize) -> Entry
 }
 
 /// The list of `n` numbers of eighths that the entries give.
-pub(crate) fn point_of(n: u16, entries: &[Entry]) -> Eighths
+pub(crate) fn point_from(n: u16, entries: &[Entry]) -> Eighths
     requires least { 2 ≤ n }
     requires most { n ≤ 256 }
     requires entries { AreEntries n entries.now }

@@ -5,22 +5,30 @@
 //! assets and the choice of the K cheapest differences. Nothing here takes memory.
 #![tactic(auto)]
 
+mod bends;
+mod constants;
+mod curves;
 mod entries;
+mod gradients;
+mod lagrangian;
+mod lines;
 mod lists;
+mod making;
 mod mean_variance;
+mod moves;
 mod node_bound;
-mod price;
-mod pricing;
+mod point;
+mod priced;
 mod rows;
 mod shows;
 mod slopes;
-mod tables;
 mod tangent;
-mod terms;
 mod thetas;
 
+pub use curves::{AlphaCurve, TauCurve};
 pub use gap_base::{Eighths, Witness};
 pub use mean_variance::MeanVariance;
+pub use point::Point;
 pub use tangent::Tangent;
 pub use thetas::{theta, void_theta};
 

@@ -26,3 +26,14 @@ pub(crate) fn greatest_list(inst: &Instance) -> Lots
     }
     list
 }
+
+/// The present lots of each asset.
+pub(crate) fn present_list(inst: &Instance) -> Lots
+    ensures { result ≡ inst.now.present }
+{
+    let mut list = Lots::zeros(inst.n());
+    for i in 0..inst.n() {
+        list.set(i, inst.present(i));
+    }
+    list
+}

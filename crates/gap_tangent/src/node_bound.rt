@@ -11,14 +11,18 @@ use gap_objective::value;
 impl<'m> NodeBound for MeanVariance<'m> {
     ghost use Rattle.gap_model.specs.Problems.{tangent_problem};
     ghost use Rattle.gap_model.proofs.BoundLaws.{tangent_lawful};
-    ghost use Rattle.gap_tangent.specs.Bounds.{setting_with};
+    ghost use Rattle.gap_tangent.specs.Seen.{setting_of};
 
-    ghost problem = { λ b. tangent_problem (setting_with b.instance.now b.shift.now b.weight) };
+    ghost problem = { λ b. tangent_problem (setting_of b) };
 
-    ghost lawful = { λ b. tangent_lawful (setting_with b.instance.now b.shift.now b.weight) b.setting };
+    ghost lawful = { λ b. tangent_lawful (setting_of b) b.setting };
 
     fn held(&self) -> u16 {
         self.instance.held()
+    }
+
+    fn held_most(&self) -> u16 {
+        self.instance.held_most()
     }
 
     fn root(&self) -> Part {

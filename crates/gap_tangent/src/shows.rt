@@ -6,9 +6,9 @@ ghost use Rattle.gap_model.specs.declared.leaf.Entry.{Entry};
 ghost use Rattle.gap_model.specs.declared.shown.Shown.TheVariants.{Nothing, AtLeast, Empty};
 ghost use Rattle.gap_model.specs.Leaves.{eighths_at, is_zero, count_shows, void_shows, tangent_shows, sixty_fourth, AreEntries, AreMultipliers};
 ghost use Rattle.gap_model.specs.Theta.{theta, void_theta};
-ghost use Rattle.gap_tangent.specs.Bounds.{setting_with};
+ghost use Rattle.gap_tangent.specs.Seen.{setting_of};
 
-use crate::entries::point_of;
+use crate::entries::point_from;
 use crate::mean_variance::MeanVariance;
 use crate::thetas::{theta, void_theta};
 use gap_base::{Witness, ceil_div64};
@@ -17,9 +17,9 @@ use gap_model::{Entry, Shown};
 
 /// What the count shows: Empty where it can't be met.
 pub(crate) fn count_shown(mv: &MeanVariance<'_>, part: &Part) -> Shown
-    ensures { result ≡ count_shows (can_meet part.now mv.now.instance.now.held) }
+    ensures { result ≡ count_shows (can_meet part.now (setting_of mv.now).instance.held (setting_of mv.now).instance.held_most) }
 {
-    if part.count_possible(mv.instance.held()) {
+    if part.count_within(mv.instance.held(), mv.instance.held_most()) {
         Shown::Nothing
     } else {
         Shown::Empty
@@ -68,9 +68,9 @@ pub(crate) fn void_shown(
     tau: i128,
     third: i128,
 ) -> Shown
-    requires within { IsWithin part.now (root_cells mv.now.instance.now.least mv.now.instance.now.greatest) }
-    requires multipliers { AreMultipliers mv.now.instance.now.turnover alpha tau }
-    ensures { result ≡ cond (is_zero third) (void_shows (void_theta (setting_with mv.now.instance.now mv.now.shift.now mv.now.weight) part.now alpha tau)) Nothing }
+    requires within { IsWithin part.now (root_cells (setting_of mv.now).instance.least (setting_of mv.now).instance.greatest) }
+    requires multipliers { AreMultipliers (setting_of mv.now).instance.turnover alpha tau }
+    ensures { result ≡ cond (is_zero third) (void_shows (void_theta (setting_of mv.now) part.now alpha tau)) Nothing }
 {
     if is_zero(third) {
         void_of(void_theta(mv, part, alpha, tau))
@@ -81,14 +81,14 @@ pub(crate) fn void_shown(
 
 /// Theta at the point of the entries.
 fn theta_of(mv: &MeanVariance<'_>, part: &Part, y: &[Entry], alpha: i128, tau: i128) -> Option<i128>
-    requires within { IsWithin part.now (root_cells mv.now.instance.now.least mv.now.instance.now.greatest) }
-    requires entries { AreEntries mv.now.instance.now.market.assets y.now }
-    requires most { sum_by (λ (e : Entry). e.eighths) y.now ≤ 8 * mv.now.instance.now.lots }
-    requires multipliers { AreMultipliers mv.now.instance.now.turnover alpha tau }
-    ensures { result ≡ theta (setting_with mv.now.instance.now mv.now.shift.now mv.now.weight) part.now (eighths_at y.now) alpha tau }
+    requires within { IsWithin part.now (root_cells (setting_of mv.now).instance.least (setting_of mv.now).instance.greatest) }
+    requires entries { AreEntries (setting_of mv.now).instance.market.assets y.now }
+    requires most { sum_by (λ (e : Entry). e.eighths) y.now ≤ 8 * (setting_of mv.now).instance.lots }
+    requires multipliers { AreMultipliers (setting_of mv.now).instance.turnover alpha tau }
+    ensures { result ≡ theta (setting_of mv.now) part.now (eighths_at y.now) alpha tau }
 {
     let w = Witness {
-        y: point_of(mv.instance.n(), y),
+        y: point_from(mv.instance.n(), y),
         alpha,
         tau,
     };
@@ -104,11 +104,11 @@ pub(crate) fn tangent_shown(
     tau: i128,
     third: i128,
 ) -> Shown
-    requires within { IsWithin part.now (root_cells mv.now.instance.now.least mv.now.instance.now.greatest) }
-    requires entries { AreEntries mv.now.instance.now.market.assets y.now }
-    requires most { sum_by (λ (e : Entry). e.eighths) y.now ≤ 8 * mv.now.instance.now.lots }
-    requires multipliers { AreMultipliers mv.now.instance.now.turnover alpha tau }
-    ensures { result ≡ cond (is_zero third) (tangent_shows (theta (setting_with mv.now.instance.now mv.now.shift.now mv.now.weight) part.now (eighths_at y.now) alpha tau)) Nothing }
+    requires within { IsWithin part.now (root_cells (setting_of mv.now).instance.least (setting_of mv.now).instance.greatest) }
+    requires entries { AreEntries (setting_of mv.now).instance.market.assets y.now }
+    requires most { sum_by (λ (e : Entry). e.eighths) y.now ≤ 8 * (setting_of mv.now).instance.lots }
+    requires multipliers { AreMultipliers (setting_of mv.now).instance.turnover alpha tau }
+    ensures { result ≡ cond (is_zero third) (tangent_shows (theta (setting_of mv.now) part.now (eighths_at y.now) alpha tau)) Nothing }
 {
     if is_zero(third) {
         tangent_of(theta_of(mv, part, y, alpha, tau))

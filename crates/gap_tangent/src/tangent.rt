@@ -1,64 +1,69 @@
 //! The tangent bound at one point, for any multipliers.
 
-ghost use Rattle.std.specs.Prelude.{◌≡◌, ◌<◌, ◌≤◌, List};
+ghost use Rattle.std.specs.Prelude.{◌≡◌, ◌<◌, ◌≤◌, ◌↔◌, ℤ, pos, IfSome, IsNone, IsSome, IsFalse, unsigned_abs};
 ghost use Rattle.gap_base.specs.Lots.{lots_at};
-ghost use Rattle.gap_box.specs.Parts.{IsWithin, root_cells};
-ghost use Rattle.gap_model.specs.Leaves.{IsPoint, AreMultipliers};
-ghost use Rattle.gap_model.specs.Theta.{theta};
-ghost use Rattle.gap_tangent.specs.Bounds.{setting_with};
-ghost use Rattle.gap_tangent.specs.Terms.{AreTermsAt, AreSmall};
+ghost use Rattle.gap_base.specs.Sizes.{most_theta};
+ghost use Rattle.gap_box.specs.Parts.{can_meet, IsWithin, root_cells};
+ghost use Rattle.gap_model.specs.Settings.{IsSetting};
+ghost use Rattle.gap_model.specs.Leaves.{IsPoint};
+ghost use Rattle.gap_tangent.specs.Seen.{setting_of};
 
+use crate::constants::constant_of;
 use crate::mean_variance::MeanVariance;
-use crate::tables::terms_at;
-use crate::terms::{Terms, least_lagrangian};
+use crate::point::Point;
+use crate::slopes::slopes_of;
 use gap_base::Eighths;
-use gap_box::Part;
+use std::marker::Model;
 
-/// The tangent of a bound at one point: what theta owes to the point alone, kept while multipliers vary. It takes no
-/// memory beyond itself, about 9 kilobytes.
+/// The tangent of a bound at one point: what theta owes to the point alone, kept while multipliers vary. Contracts see it
+/// as its point, a `PointValue`. It takes no memory beyond itself, about 5 kilobytes.
 #[derive(Drop)]
 pub struct Tangent<'m> {
-    bound: MeanVariance<'m>,
-    y: Eighths,
-    terms: Terms,
-    pub ghost terms_are: { AreTermsAt (setting_with bound.instance.now bound.shift.now bound.weight) (lots_at y) terms.slopes terms.bends terms.constant },
-    pub ghost small: { AreSmall bound.instance.now.market.assets terms.slopes terms.bends terms.constant },
+    pub(crate) bound: &'m MeanVariance<'m>,
+    pub(crate) eighths: Eighths,
+    pub(crate) slopes: [i128; 256],
+    pub(crate) constant: i128,
+}
+
+impl<'m> Model for Tangent<'m> {
+    ghost use Rattle.gap_tangent.specs.Seen.{setting_of};
+    ghost use Rattle.gap_tangent.specs.Points.{PointValue, IsKeptTangent};
+
+    ghost Value = { PointValue };
+
+    ghost view = { λ a. record { setting = setting_of a.bound.now; eighths = a.eighths } };
+
+    ghost invariant = { λ a. IsKeptTangent (setting_of a.bound.now) a.eighths a.bound.now.bends a.slopes a.constant };
 }
 
 impl<'m> Tangent<'m> {
-    /// The tangent at `y`: the products `Ay`, `y'Ay` and the costs of single assets that no multiplier changes. Costs
-    /// O(N) for each asset with eighths, and O(N) more.
-    pub fn at(bound: &MeanVariance<'m>, y: &Eighths) -> Tangent<'m>
-        requires { IsPoint bound.now.instance.now y.now }
-        ensures instance { result.bound.instance.now ≡ bound.now.instance.now }
-        ensures shift { result.bound.shift.now ≡ bound.now.shift.now }
-        ensures weight { result.bound.weight ≡ bound.now.weight }
-        ensures point { result.y ≡ y.now }
+    /// The tangent at `y`: the products `Ay`, `y'Ay` and what each asset's lots cost before any multiplier. Costs O(N)
+    /// for each asset with eighths, and O(N) more.
+    pub fn at(bound: &'m MeanVariance<'m>, y: &Eighths) -> Tangent<'m>
+        requires { IsPoint (setting_of bound.now).instance y.now }
+        ensures { result ≡ record { setting = setting_of bound.now; eighths = y.now } }
     {
-        let terms = terms_at(bound, y);
+        Tangent::of(&Point::at(bound, y))
+    }
+
+    /// The tangent at a point whose products are kept. Costs O(N).
+    pub fn of(point: &Point<'m>) -> Tangent<'m>
+        ensures { result ≡ point.now }
+    {
         Tangent {
-            bound: bound.copy(),
-            y: y.copy(),
-            terms,
+            bound: point.bound,
+            eighths: point.eighths.copy(),
+            slopes: slopes_of(point),
+            constant: constant_of(point.bound, &point.eighths, &point.gradients),
         }
     }
 
-    /// The point.
-    pub fn point(&self) -> &Eighths
-        ensures { result.now ≡ self.now.y }
+    /// The eighths of the point. Its contract also says all that holds of every tangent.
+    pub fn eighths(&self) -> &Eighths
+        ensures value { result.now ≡ self.now.eighths }
+        ensures point { IsPoint self.now.setting.instance self.now.eighths }
+        ensures setting { IsSetting self.now.setting }
     {
-        &self.y
-    }
-
-    /// Theta of the part under these multipliers: the least of the Lagrangian over the lists of the part that hold
-    /// exactly K assets. None exactly where the count can't be met. Costs O(N log N) at most, O(N) on average, and no
-    /// sum reaches 10^37.
-    pub fn theta(&self, part: &Part, alpha: i128, tau: i128) -> Option<i128>
-        requires within { IsWithin part.now (root_cells self.now.bound.instance.now.least self.now.bound.instance.now.greatest) }
-        requires multipliers { AreMultipliers self.now.bound.instance.now.turnover alpha tau }
-        ensures { result ≡ theta (setting_with self.now.bound.instance.now self.now.bound.shift.now self.now.bound.weight) part.now (lots_at self.now.y) alpha tau }
-    {
-        let _cells = part.len();
-        least_lagrangian(self.bound.instance, part, &self.terms, alpha, tau)
+        &self.eighths
     }
 }

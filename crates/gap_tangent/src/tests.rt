@@ -3,13 +3,15 @@
 ghost use Rattle.std.specs.Prelude.{◌≡◌, ◌<◌, ◌≤◌, ◌*◌, ◌≤ℤ◌, pos, unsigned_abs, Some, None, length, slice_index_or, IfOk};
 ghost use Rattle.gap_box.specs.Parts.{IsWithin, root_cells};
 ghost use Rattle.gap_model.specs.Leaves.{IsPoint, AreMultipliers};
+ghost use Rattle.gap_tangent.specs.Seen.{setting_of};
 
 use crate::tests::drawing::{drawn, instance, point, shift_of, split_once, two_assets};
 use crate::tests::listing::listed;
-use crate::{MeanVariance, theta, void_theta};
+use crate::{MeanVariance, Tangent, theta, void_theta};
 use gap_base::{Eighths, OutOfMemory, Weight, Witness};
 use gap_box::{Part, Side, Split};
 use gap_instance::Instance;
+use gap_lines::Line;
 use gap_model::{Entry, Leaf, NodeBound, Shown};
 use gap_psd::{Shift, dominant};
 use std::alloc::Global;
@@ -20,8 +22,8 @@ mod listing;
 
 /// Theta of the root.
 fn root_theta(mv: &MeanVariance<'_>, w: &Witness) -> Option<i128>
-    requires point { IsPoint mv.now.instance.now w.now.y }
-    requires multipliers { AreMultipliers mv.now.instance.now.turnover w.now.alpha w.now.tau }
+    requires point { IsPoint (setting_of mv.now).instance w.now.y }
+    requires multipliers { AreMultipliers (setting_of mv.now).instance.turnover w.now.alpha w.now.tau }
 {
     theta(mv, &mv.root(), w)
 }
@@ -56,6 +58,35 @@ fn thetas_of_two_assets(rt: HostRuntime) -> Result<(), Fail> {
     Ok(())
 }
 
+/// The line through the root's theta at multipliers 0.
+fn root_line(mv: &MeanVariance<'_>, y: &Eighths) -> Option<Line>
+    requires { IsPoint (setting_of mv.now).instance y.now }
+{
+    Tangent::at(mv, y).line_in_alpha(&mv.root(), 0, 0)
+}
+
+#[test]
+fn a_line_through_theta(rt: HostRuntime) -> Result<(), Fail> {
+    let inst = two_assets(rt.alloc())?;
+    let shift = Shift::zero(rt.alloc(), 2)?;
+    let row = dominant(&inst, &shift);
+    assert!(rt; row.is_none());
+    let mv = MeanVariance::new(&inst, &shift, Weight { p: 1, q: 2 });
+    let mut y = Eighths::zeros(2);
+    y.set(0, 63);
+    y.set(1, 17);
+    // one lot in each asset has theta: 944 + 960 - 5125, and eight lots less than there are
+    match root_line(&mv, &y) {
+        Some(line) => {
+            assert_eq!(rt; line.place, 0);
+            assert_eq!(rt; line.value, -32_210_000_000_000_000_000);
+            assert_eq!(rt; line.slope, -8);
+        }
+        None => assert!(rt; false),
+    }
+    Ok(())
+}
+
 /// A drawn multiplier of the sum.
 fn drawn_alpha(seed: u32) -> i128
     ensures { unsigned_abs result ≤ 1000000000000000000000000000000 }
@@ -77,8 +108,8 @@ fn drawn_tau(seed: u32, turnover: Option<u32>) -> i128
 
 /// Theta of a drawn part at a drawn witness, by the crate and by all lists.
 fn two_thetas(mv: &MeanVariance<'_>, seed: u32) -> (Option<i128>, Option<i128>)
-    requires lots { mv.now.instance.now.lots ≡ 7 }
-    requires few { mv.now.instance.now.market.assets ≤ 7 }
+    requires lots { (setting_of mv.now).instance.lots ≡ 7 }
+    requires few { (setting_of mv.now).instance.market.assets ≤ 7 }
 {
     let first = split_once(&mv.root(), seed);
     let second = split_once(&first, seed.wrapping_add(100));

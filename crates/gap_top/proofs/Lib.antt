@@ -1,6 +1,4 @@
-pub mod WordLemmas
-pub mod ListLaws
-pub mod PlainLaws
-pub mod HeadlineLaws
-pub mod LeastLaws
-pub mod ReadingLaws
+pub mod PrintLaws
+pub mod AnswerLaws
+pub mod CompleteLaws
+pub mod RightLaws

@@ -1,7 +1,5 @@
-pub mod Words
-pub mod Report
-pub mod Refusals
-pub mod Plain
-pub mod Headline
-pub mod Reading
+pub mod Printing
 pub mod Statuses
+pub mod Working
+pub mod Steps
+pub mod Answers

@@ -1,29 +1,36 @@
--- The statuses that `run` answers. Own to portgap.
-use Rattle.std.specs.Prelude.{◌≡◌, ℕ, ◌<◌, ◌≤◌, ◌⊎◌, Result, Ok}
-use Rattle.gap_base.specs.Markets.{MarketValue}
-use Rattle.gap_orlib.specs.declared.fault.PortFault.{PortFault}
-use Rattle.gap_top.specs.declared.words.QuickWords.{QuickWords}
+-- The exit statuses. Own to portgap.
+use Rattle.std.specs.Prelude.{◌≡◌, ℕ, ◌⊎◌, List, [], ◌∷◌, Result, Ok, Err}
+use Rattle.gap_words.specs.Forms.{FormValue, faulty, quick, solve, check, verify, demo}
+use Rattle.gap_words.specs.Refusals.{refusal_status}
+use Rattle.gap_words.specs.declared.refusal.Refusal.{Refusal}
+use Rattle.gap_rule.specs.declared.task.Task.{Task}
+use Rattle.gap_top.specs.declared.stop.Stop.{Stop}
+use Rattle.gap_top.specs.declared.stop.Stop.TheVariants.{Refused, ReadFault, WriteFault, OutOfMemory}
 
--- the statuses of a run whose market was read: done, want of memory, a write fault, the job refused
-abbrev pub IsMarketStatus : ℕ → Type 0
-IsMarketStatus n = (n ≡ 0) ⊎ ((n ≡ 1) ⊎ ((n ≡ 4) ⊎ (n ≡ 6)))
+-- the number of a status: done, want of memory, a read fault, a write fault, or that of a refusal
+abbrev pub status_number : Result (Unit {0}) Stop → ℕ
+status_number (Ok done) = 0
+status_number (Err (Refused why)) = refusal_status why
+status_number (Err ReadFault) = 3
+status_number (Err WriteFault) = 4
+status_number (Err OutOfMemory) = 1
 
--- the statuses of `quick` whose words are in form: besides those, a read fault and the port file refused
-abbrev pub IsQuickStatus : ℕ → Type 0
-IsQuickStatus n = IsMarketStatus n ⊎ ((n ≡ 3) ⊎ (n ≡ 5))
+-- a number is one of these
+abbrev pub IsOneOf : List ℕ → ℕ → Type 0
+IsOneOf [] n = ⊥
+IsOneOf (m ∷ more) n = (n ≡ m) ⊎ IsOneOf more n
 
--- the table of statuses: besides those, words that aren't in form and words that aren't built
-abbrev pub IsStatus : ℕ → Type 0
-IsStatus n = IsQuickStatus n ⊎ ((n ≡ 2) ⊎ (n ≡ 9))
+-- the statuses that a form may have, whatever its files hold
+abbrev pub IsStatusOf : FormValue → ℕ → Type 0
+IsStatusOf faulty n = IsOneOf (1 ∷ 2 ∷ []) n
+IsStatusOf (quick port asked) n = IsOneOf (0 ∷ 1 ∷ 3 ∷ 4 ∷ 5 ∷ 6 ∷ []) n
+IsStatusOf (solve port job cert) n = IsOneOf (0 ∷ 1 ∷ 3 ∷ 4 ∷ 5 ∷ 6 ∷ []) n
+IsStatusOf (check cert) n = IsOneOf (1 ∷ 3 ∷ 9 ∷ []) n
+IsStatusOf (verify port job cert) n = IsOneOf (1 ∷ 3 ∷ 9 ∷ []) n
+IsStatusOf (demo asked) n = IsOneOf (1 ∷ 9 ∷ []) n
 
--- the bytes of the port file are a market with at least as many assets as are to be held
-pub record IsAccepted (quick : QuickWords) (read : Result MarketValue PortFault) : Type 0 where
-  pub market : MarketValue
-  pub is : read ≡ Ok market
-  pub enough : quick.held ≤ market.assets
-
--- the bytes of the port file are a market with fewer assets than are to be held
-pub record IsJobRefused (quick : QuickWords) (read : Result MarketValue PortFault) : Type 0 where
-  pub market : MarketValue
-  pub is : read ≡ Ok market
-  pub few : market.assets < quick.held
+-- the statuses that a ruling allows: a task is done, or stops for memory or a fault; a refusal has its own, unless memory
+-- or a read fault comes before it
+abbrev pub Allows : Result Task Refusal → ℕ → Type 0
+Allows (Ok task) n = IsOneOf (0 ∷ 1 ∷ 3 ∷ 4 ∷ []) n
+Allows (Err why) n = IsOneOf (refusal_status why ∷ 1 ∷ 3 ∷ []) n

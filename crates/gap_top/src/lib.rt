@@ -1,33 +1,27 @@
 //! The commands of portgap, over any files and any sink: the public call `run`.
 #![tactic(auto)]
 
-ghost use Rattle.std.specs.Prelude.{◌≡◌, ◌≢◌, ◌↔◌, ℕ, ◌≤◌, ◌⊎◌, map, IsErr};
-ghost use Rattle.std.specs.Option.{ForSome};
+ghost use Rattle.std.specs.Prelude.{◌≡◌, map};
 ghost use Rattle.std.specs.String.{string_bytes};
-ghost use Rattle.gap_files.specs.Outside.{Rose, SameElsewhere, SameEverywhere, bytes_of};
-ghost use Rattle.gap_orlib.specs.Ports.{port};
-ghost use Rattle.gap_top.specs.Headline.{TellsWords};
-ghost use Rattle.gap_top.specs.Statuses.{IsStatus, IsAccepted, IsJobRefused};
-ghost use Rattle.gap_top.specs.Words.{form, word_at};
-ghost use Rattle.gap_top.specs.declared.words.Form.{Form};
-ghost use Rattle.gap_top.specs.declared.words.QuickWords.{QuickWords};
+ghost use Rattle.gap_words.specs.Forms.{form, form_value, IsFormInRange};
+ghost use Rattle.gap_top.specs.Answers.{Answers};
+ghost use Rattle.gap_top.specs.Statuses.{status_number};
+ghost use Rattle.gap_top.specs.Working.{cert_in};
 
-mod lines;
-mod outcome;
-mod plain;
-mod port_line;
-mod quick;
-mod reading;
-mod refusals;
-mod solve;
+mod laws;
+mod perform;
+mod print;
+mod stop;
 #[cfg(test)]
 mod tests;
-mod words;
 
-use crate::quick::{refuse, run_quick};
-use crate::refusals::Refusal;
-pub use crate::words::{Form, QuickWords, form_of};
+pub use crate::laws::{answers_are_complete, answers_are_right};
+use crate::perform::perform;
+use crate::print::end_by;
+use crate::stop::{Stop, status_of};
 use gap_files::{Files, Sink};
+use gap_rule::rule;
+use gap_words::{Form, form_of};
 use std::alloc::Global;
 
 /// Runs the command that the words after the program's name ask for, over these files and this sink, and answers the
@@ -37,49 +31,49 @@ use std::alloc::Global;
 /// |---|---|---|
 /// | 0 | done | the whole report was written |
 /// | 1 | want of memory | free, nothing is tied to it |
-/// | 2 | words | exactly where the words aren't in form |
-/// | 3 | read fault | only where the count of read faults of PORT rose in this call |
-/// | 4 | write fault | only where the sink's count of faults rose in this call |
+/// | 2 | words | exactly where the words aren't in the form of a command |
+/// | 3 | read fault | only where the count of read faults of PORT or JOB rose in this call |
+/// | 4 | write fault | only where the sink's count of faults rose in this call, or CERT's count of write faults |
 /// | 5 | port refused | exactly where the content of PORT is no market |
-/// | 6 | job refused | exactly where HELD is above the number of assets |
-/// | 9 | not built | exactly where the words ask for another command, or for nodes |
+/// | 6 | job refused | exactly where the content of JOB is no job, or `quick` has HELD above the number of assets |
+/// | 9 | not built | exactly where the words are those of `check`, `verify` or `demo` |
 ///
-/// Each 'exactly where' holds if no earlier refusal in this order came: words, a fault in reading PORT, port, job, the
-/// work and the writes; and it yields to want of memory. The statuses 2 and 9 come before any read.
+/// Each 'exactly where' holds if no earlier refusal in this order came: words, a fault in reading PORT, port, a fault in
+/// reading JOB, job, the work and the writes; and it yields to want of memory. The statuses 2 and 9 come before any read. A
+/// refusal writes its line, whole where the sink's count didn't rise. `quick` and `solve` put out their report and their
+/// certificate, or a front of both in their order; the certificate of `quick` goes into the unnamed file. 3 writes nothing.
 ///
-/// One pass over the bytes of PORT, and O(N * N) steps and memory for N assets.
+/// One pass over the bytes of PORT and JOB, O(N * N) steps and memory for N assets, and what the searches cost.
 pub fn run<F: Files, S: Sink>(alloc: Global, words: &[String], files: &mut F, out: &mut S) -> u8
-    ensures statuses { IsStatus result }
-
-    // The cause of each status that the words decide; then nothing is read.
-    ensures faulty { (result ≡ 2) ↔ (form (map string_bytes words.now) ≡ Form.Faulty) }
-    ensures not_built { (result ≡ 9) ↔ (form (map string_bytes words.now) ≡ Form.NotBuilt) }
-    ensures unread { (result ≡ 2) ⊎ (result ≡ 9) → files.new ≡ files.old }
-
-    // The cause of each status that the outside decides.
-    ensures read_fault { result ≡ 3 → Rose (F.read_faults files.old (word_at (map string_bytes words.now) 1)) (F.read_faults files.new (word_at (map string_bytes words.now) 1)) }
-    ensures write_fault { result ≡ 4 → Rose (S.faults out.old) (S.faults out.new) }
-
-    // The cause of each status that the content of PORT decides, and what the others say of it.
-    ensures port_refused { ForSome (F.content files.old (word_at (map string_bytes words.now) 1)) (λ held. result ≡ 5 → IsErr (port (bytes_of held))) }
-    ensures job_refused { ForSome (F.content files.old (word_at (map string_bytes words.now) 1)) (λ held. (quick : QuickWords) → form (map string_bytes words.now) ≡ Form.Quick quick → result ≡ 6 → IsJobRefused quick (port (bytes_of held))) }
-    ensures accepted { ForSome (F.content files.old (word_at (map string_bytes words.now) 1)) (λ held. (quick : QuickWords) → form (map string_bytes words.now) ≡ Form.Quick quick → (result ≡ 0) ⊎ (result ≡ 4) → IsAccepted quick (port (bytes_of held))) }
-
-    // Completeness: words in form, an accepted file and counts that didn't rise give the whole report, or 1.
-    ensures complete { ForSome (F.content files.old (word_at (map string_bytes words.now) 1)) (λ held. (quick : QuickWords) → form (map string_bytes words.now) ≡ Form.Quick quick → IsAccepted quick (port (bytes_of held)) → ¬ (Rose (F.read_faults files.old (word_at (map string_bytes words.now) 1)) (F.read_faults files.new (word_at (map string_bytes words.now) 1))) → ¬ (Rose (S.faults out.old) (S.faults out.new)) → (result ≡ 0) ⊎ (result ≡ 1)) }
-
-    // The headline: what was written is the report of right outcomes, or a front of it, or of one line of refusal.
-    ensures told { ForSome (F.content files.old (word_at (map string_bytes words.now) 1)) (λ held. ForSome (S.written out.old) (λ before. TellsWords (form (map string_bytes words.now)) (bytes_of held) before (S.written out.new) result)) }
-
-    // What stays.
-    ensures contents { SameEverywhere (F.content files.old) (F.content files.new) }
-    ensures others { SameElsewhere (word_at (map string_bytes words.now) 1) (F.read_faults files.old) (F.read_faults files.new) }
-    ensures reads_later { F.read_faults files.old (word_at (map string_bytes words.now) 1) ≤ F.read_faults files.new (word_at (map string_bytes words.now) 1) }
-    ensures writes_later { S.faults out.old ≤ S.faults out.new }
+    ensures { Answers (form (map string_bytes words.now))
+        (F.files files.old) (S.sink out.old) (F.files files.new) (S.sink out.new) result }
 {
-    match form_of(words) {
-        Form::Faulty => refuse(out, Refusal::Words),
-        Form::NotBuilt => refuse(out, Refusal::NotBuilt),
-        Form::Quick(quick) => run_quick(alloc, quick, words::word(words, 1), files, out),
+    status_of(answer(alloc, form_of(words), files, out))
+}
+
+/// Rules a form, and refuses it or does its task.
+fn answer<F: Files, S: Sink>(
+    alloc: Global,
+    form: Form<'_>,
+    files: &mut F,
+    out: &mut S,
+) -> Result<(), Stop>
+    requires { IsFormInRange (form_value form) }
+    ensures { Answers (form_value form.entry)
+        (F.files files.old) (S.sink out.old) (F.files files.new) (S.sink out.new) (status_number result) }
+{
+    match rule(alloc, form, files) {
+        Ok(task) => perform(alloc, &task, cert_of(form), files, out),
+        Err(halt) => Err(end_by(alloc, halt, out)),
+    }
+}
+
+/// The name of the file into which a command's certificate goes; the unnamed file's is empty.
+fn cert_of<'a>(form: Form<'a>) -> &'a str
+    ensures { result.now ≡ cert_in (form_value form.entry) }
+{
+    match form {
+        Form::Solve { cert, .. } => cert,
+        _ => "",
     }
 }

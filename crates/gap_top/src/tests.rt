@@ -29,17 +29,28 @@ fn answer_to(alloc: Global, line: &str, text: &str) -> Result<(u8, SteadySink), 
 #[test]
 fn words_decide_before_any_read(rt: HostRuntime) -> Result<(), Fail> {
     let rows = [
-        ("quick PORT 2 10 1 1 5", 9, "notbuilt\n"),
-        ("solve", 9, "notbuilt\n"),
+        ("check CERT", 9, "notbuilt\n"),
+        ("verify PORT JOB CERT", 9, "notbuilt\n"),
+        ("demo 7 31 10 100 20", 9, "notbuilt\n"),
+        (
+            "solve PORT JOB JOB",
+            2,
+            "usage: portgap quick PORT HELD LOTS P Q NODES | solve PORT JOB CERT | check CERT | verify PORT JOB CERT | demo NUMBER N HELD LOTS NODES\n",
+        ),
         (
             "quick PORT 2 10 2 1 0",
             2,
-            "usage: portgap quick PORT HELD LOTS P Q NODES\n",
+            "usage: portgap quick PORT HELD LOTS P Q NODES | solve PORT JOB CERT | check CERT | verify PORT JOB CERT | demo NUMBER N HELD LOTS NODES\n",
+        ),
+        (
+            "quick PORT 2-1 10 1 1 0",
+            2,
+            "usage: portgap quick PORT HELD LOTS P Q NODES | solve PORT JOB CERT | check CERT | verify PORT JOB CERT | demo NUMBER N HELD LOTS NODES\n",
         ),
         (
             "--help",
             2,
-            "usage: portgap quick PORT HELD LOTS P Q NODES\n",
+            "usage: portgap quick PORT HELD LOTS P Q NODES | solve PORT JOB CERT | check CERT | verify PORT JOB CERT | demo NUMBER N HELD LOTS NODES\n",
         ),
     ];
     for (line, status, text) in rows {
@@ -51,35 +62,68 @@ fn words_decide_before_any_read(rt: HostRuntime) -> Result<(), Fail> {
 }
 
 #[test]
-fn prints_portfolio_and_bound(rt: HostRuntime) -> Result<(), Fail> {
+fn quick_answers_one_weight(rt: HostRuntime) -> Result<(), Fail> {
     let rows = [
         (
             A,
             "quick PORT 2 10 1 1 0",
-            "weight 1/1 open nodes 0 objective 1250000000000000000/100000000000000000000 bound 0/100000000000000000000\nlots 1:5 2:5\n",
+            "weight 1/1 closed nodes 0 objective 800000000000000000/100000000000000000000 bound 800000000000000000/100000000000000000000\nlots 1:8 2:2\n",
+        ),
+        (
+            A,
+            "quick PORT 1 10 1 1 100",
+            "weight 1/1 closed nodes 1 objective 1000000000000000000/100000000000000000000 bound 1000000000000000000/100000000000000000000\nlots 1:10\n",
+        ),
+        (
+            A,
+            "quick PORT 1 10 1 1 0",
+            "weight 1/1 open nodes 0 objective 1000000000000000000/100000000000000000000 bound 800000000000000000/100000000000000000000\nlots 1:10\n",
         ),
         (
             A,
             "quick PORT 1 10 0 1 0",
-            "weight 0/1 open nodes 0 objective -100000000000000000/100000000000000000000 bound -200000000000000000/100000000000000000000\nlots 1:10\n",
+            "weight 0/1 closed nodes 0 objective -200000000000000000/100000000000000000000 bound -200000000000000000/100000000000000000000\nlots 2:10\n",
+        ),
+        (
+            A,
+            "quick PORT 2 10 1 2 0",
+            "weight 1/2 open nodes 0 objective 680000000000000000/200000000000000000000 bound 676718750000000000/200000000000000000000\nlots 1:8 2:2\n",
+        ),
+        (
+            A,
+            "quick PORT 2 10 1 2 1",
+            "weight 1/2 open nodes 1 objective 680000000000000000/200000000000000000000 bound 676718750000000000/200000000000000000000\nlots 1:8 2:2\n",
+        ),
+        (
+            A,
+            "quick PORT 2 10 1 2 100",
+            "weight 1/2 closed nodes 3 objective 680000000000000000/200000000000000000000 bound 680000000000000000/200000000000000000000\nlots 1:8 2:2\n",
         ),
         (A, "quick PORT 2 1 1 1 0", "weight 1/1 none nodes 0\n"),
         (
-            "2\n.001 .1\n.001 .1\n1 2 1\n",
-            "quick PORT 2 10 1 1 0",
-            "weight 1/1 closed nodes 0 objective 1000000000000000000/100000000000000000000 bound 1000000000000000000/100000000000000000000\nlots 1:5 2:5\n",
+            A,
+            "quick PORT 1-2 10 1 1 0",
+            "weight 1/1 open nodes 0 objective 1000000000000000000/100000000000000000000 bound 800000000000000000/100000000000000000000\nlots 1:10\n",
         ),
-        // a negative mean, a deviation 0, as many assets held as there are, a lot left over
         (
-            "3 -.001 0 .002 .1 0 .2 1 2 0 2 3 -.5 3 1 1",
-            "quick PORT 3 10 1 2 0",
-            "weight 1/2 open nodes 0 objective 250000000000000000/200000000000000000000 bound -1200000000000000000/200000000000000000000\nlots 1:4 2:3 3:3\n",
+            A,
+            "quick PORT 1-2 10 1 1 1",
+            "weight 1/1 closed nodes 1 objective 800000000000000000/100000000000000000000 bound 800000000000000000/100000000000000000000\nlots 1:8 2:2\n",
         ),
-        // pairs out of order, the other way round and twice, an exponent, a digit too many
+        (
+            "2\n.001 .1\n.001 .1\n1 2 0\n",
+            "quick PORT 1 10 1 1 100",
+            "weight 1/1 closed nodes 1 objective 1000000000000000000/100000000000000000000 bound 1000000000000000000/100000000000000000000\nlots 1:10\n",
+        ),
+        (
+            "3\n.001 .1\n.002 .2\n0 1\n1 2 0\n1 3 0\n2 3 0\n",
+            "quick PORT 2 10 1 2 1",
+            "weight 1/2 open nodes 1 objective 680000000000000000/200000000000000000000 bound 611718750000000000/200000000000000000000\nlots 1:8 2:2\n",
+        ),
         (
             "2 1e-3 .1 .0020000 2e-1 2 1 0 1 2 .0000001 2 2 1",
             "quick PORT 2 10 1 1 0",
-            "weight 1/1 open nodes 0 objective 1250000000000000000/100000000000000000000 bound 0/100000000000000000000\nlots 1:5 2:5\n",
+            "weight 1/1 closed nodes 0 objective 800000000000000000/100000000000000000000 bound 800000000000000000/100000000000000000000\nlots 1:8 2:2\n",
         ),
     ];
     for (port, line, text) in rows {
@@ -90,10 +134,111 @@ fn prints_portfolio_and_bound(rt: HostRuntime) -> Result<(), Fail> {
     Ok(())
 }
 
+/// What `solve` answers and writes for a port file and a job file of these texts.
+fn solved(alloc: Global, port: &str, job: &str) -> Result<(u8, SteadySink, SteadyFiles), Fail> {
+    let words = words_of(alloc, "solve PORT JOB CERT")?;
+    let mut files = SteadyFiles::new(alloc);
+    files.put("PORT", port.as_bytes())?;
+    files.put("JOB", job.as_bytes())?;
+    let mut sink = SteadySink::new(alloc);
+    let status = run(alloc, &words, &mut files, &mut sink);
+    Ok((status, sink, files))
+}
+
+/// The certificate of two assets in ten lots of which both are held, for risk alone: 191 bytes, in hexadecimal.
+const CERTIFICATE: &str =
+    "47415043455254320002000a000200020000000000000003e8000186a00001000a0000000007d000030d400001000a00000000000000005af3107a400000000000000000000000b5e620f480000000000000000000000000000000000000000000000000000000000000000000010101010002000100080002000200000000000000000b1a2bc2ec50000000030002000100000040000200000010ffffffffffffffff71e43640fc00000000000000000000000000000000000000454e440a";
+
+/// Bytes in hexadecimal.
+fn hexadecimal(alloc: Global, bytes: &[u8]) -> Result<String, Fail> {
+    let digits = b"0123456789abcdef";
+    let mut text = String::new(alloc);
+    for byte in bytes {
+        text.push(char::from(digits[usize::from(*byte / 16)]))?;
+        text.push(char::from(digits[usize::from(*byte % 16)]))?;
+    }
+    Ok(text)
+}
+
+#[test]
+fn solve_leaves_the_certificate(rt: HostRuntime) -> Result<(), Fail> {
+    let alloc = rt.alloc();
+    let (status, _, files) = solved(
+        alloc,
+        A,
+        r#"{"lots":10,"held":2,"weights":[[1,1]],"nodes":0}"#,
+    )?;
+    assert_eq!(rt; status, 0);
+    let Some(bytes) = files.content("CERT") else {
+        assert!(rt; false, "there is no CERT");
+        return Ok(());
+    };
+    assert_eq!(rt; hexadecimal(alloc, bytes)?.as_str(), CERTIFICATE);
+    Ok(())
+}
+
+#[test]
+fn solve_answers_a_job(rt: HostRuntime) -> Result<(), Fail> {
+    let rows = [
+        (
+            A,
+            r#"{"lots":10,"held":2,"greatest":4,"weights":[[1,1]]}"#,
+            "assets 2 rounded 0 shift 0\nweight 1/1 none nodes 0\n",
+        ),
+        (
+            A,
+            r#"{"lots":10,"held":2,"present":[[1,5],[2,5]],"turnover":0,"weights":[[1,1]],"nodes":0}"#,
+            "assets 2 rounded 0 shift 0\nweight 1/1 closed nodes 0 objective 1250000000000000000/100000000000000000000 bound 1250000000000000000/100000000000000000000\nlots 1:5 2:5\nrow 1 weight 1/1 risk 1250000000000000000/100000000000000000000 return 15000/10000000 efficient\n",
+        ),
+        (
+            A,
+            r#"{"lots":10,"held":2,"present":[[1,8],[2,1]],"turnover":0,"weights":[[1,1]],"nodes":0}"#,
+            "assets 2 rounded 0 shift 0\nweight 1/1 none nodes 0\n",
+        ),
+        (
+            "3\n0 .1\n0 .1\n0 .1\n1 2 -1\n1 3 -1\n2 3 -1\n",
+            r#"{"lots":9,"held":3,"weights":[[1,1]],"nodes":999}"#,
+            "assets 3 rounded 0 shift 30000000000000000\nweight 1/1 closed nodes 10 objective -270000000000000000/81000000000000000000 bound -270000000000000000/81000000000000000000\nlots 1:3 2:3 3:3\nrow 1 weight 1/1 risk -270000000000000000/81000000000000000000 return 0/9000000 efficient\n",
+        ),
+        (
+            A,
+            r#"{"lots":10,"held":2,"weights":[[1,1]],"nodes":0}"#,
+            "assets 2 rounded 0 shift 0\nweight 1/1 closed nodes 0 objective 800000000000000000/100000000000000000000 bound 800000000000000000/100000000000000000000\nlots 1:8 2:2\nrow 1 weight 1/1 risk 800000000000000000/100000000000000000000 return 12000/10000000 efficient\n",
+        ),
+        (
+            "5\n0 .1\n0 .1\n0 .1\n0 .1\n0 .1\n1 2 .6\n1 3 .6\n1 4 .6\n1 5 .6\n2 3 .36\n2 4 .36\n2 5 .36\n3 4 .36\n3 5 .36\n4 5 .36\n",
+            r#"{"lots":10,"held":2,"weights":[[1,1]],"nodes":0}"#,
+            "assets 5 rounded 0 shift 0\nweight 1/1 open nodes 0 objective 680000000000000000/100000000000000000000 bound 520000000000000000/100000000000000000000\nlots 2:5 3:5\nrow 1 weight 1/1 risk 680000000000000000/100000000000000000000 return 0/10000000 efficient\n",
+        ),
+        (
+            "2\n.001 .2\n.001 .1\n1 2 0\n",
+            r#"{"lots":10,"held":1,"weights":[[0,1],[1,1]],"nodes":10}"#,
+            "assets 2 rounded 0 shift 0\nweight 0/1 closed nodes 0 objective -100000000000000000/100000000000000000000 bound -100000000000000000/100000000000000000000\nlots 1:10\nweight 1/1 closed nodes 1 objective 1000000000000000000/100000000000000000000 bound 1000000000000000000/100000000000000000000\nlots 2:10\nrow 1 weight 0/1 risk 4000000000000000000/100000000000000000000 return 10000/10000000 dominated\nrow 2 weight 1/1 risk 1000000000000000000/100000000000000000000 return 10000/10000000 efficient\n",
+        ),
+        (
+            A,
+            r#"{"lots":10,"held":2,"weights":[[1,2]],"nodes":120,"workers":16}"#,
+            "assets 2 rounded 0 shift 0\nweight 1/2 closed nodes 3 objective 680000000000000000/200000000000000000000 bound 680000000000000000/200000000000000000000\nlots 1:8 2:2\nrow 1 weight 1/2 risk 800000000000000000/100000000000000000000 return 12000/10000000 efficient\n",
+        ),
+        (
+            A,
+            r#"{"lots":10,"held":[1,2],"weights":[[1,1]],"nodes":1}"#,
+            "assets 2 rounded 0 shift 0\nweight 1/1 closed nodes 1 objective 800000000000000000/100000000000000000000 bound 800000000000000000/100000000000000000000\nlots 1:8 2:2\nrow 1 weight 1/1 risk 800000000000000000/100000000000000000000 return 12000/10000000 efficient\n",
+        ),
+    ];
+    for (port, job, text) in rows {
+        let (status, sink, _) = solved(rt.alloc(), port, job)?;
+        assert_eq!(rt; status, 0, "{job}");
+        assert_eq!(rt; sink.bytes(), text.as_bytes(), "{job}");
+    }
+    Ok(())
+}
+
 #[test]
 fn refuses_files_and_jobs(rt: HostRuntime) -> Result<(), Fail> {
     let rows = [
         (A, "quick PORT 3 10 1 1 0", 6, "job Range held\n"),
+        (A, "quick PORT 2-3 10 1 1 0", 6, "job Range held\n"),
         (
             "2\n.001 .1\n.002 .2\n1 2 0\n2 1 .5\n",
             "quick PORT 2 10 1 1 0",
@@ -154,29 +299,27 @@ fn refuses_files_and_jobs(rt: HostRuntime) -> Result<(), Fail> {
     Ok(())
 }
 
-/// A market of 256 assets with the greatest means, deviations and correlations.
-fn greatest_market(alloc: Global) -> Result<String, Fail> {
-    let mut text = String::from_str(alloc, "256")?;
-    for _ in 0..256 {
-        text.push_str(" 1 1")?;
-    }
-    for i in 1..256u16 {
-        for j in i + 1..257u16 {
-            let pair = format!(in alloc; " {i} {j} 1")?;
-            text.push_str(pair.as_str())?;
-        }
-    }
-    Ok(text)
-}
-
 #[test]
-fn holds_the_greatest_sizes(rt: HostRuntime) -> Result<(), Fail> {
-    let text = greatest_market(rt.alloc())?;
-    let (status, sink) = answer_to(rt.alloc(), "quick PORT 1 10000 100 100 0", text.as_str())?;
-    let line =
-        "weight 100/100 closed nodes 0 objective 10000000000000000000000000000/10000000000000000000000000000 bound 10000000000000000000000000000/10000000000000000000000000000\nlots 1:10000\n";
-    assert_eq!(rt; status, 0);
-    assert_eq!(rt; sink.bytes(), line.as_bytes());
+fn solve_refuses_jobs(rt: HostRuntime) -> Result<(), Fail> {
+    let rows = [
+        (A, r#"{"held":2}"#, 6, "job Kind lots\n"),
+        (A, r#"{"lots":10,"zz":1}"#, 6, "job Unknown 1\n"),
+        (A, "[]", 6, "job NotObject\n"),
+        (A, "{", 6, "job NotJson\n"),
+        (
+            A,
+            r#"{"lots":10,"held":3,"weights":[[1,1]]}"#,
+            6,
+            "job Range held\n",
+        ),
+        ("", "{", 5, "port Short 0\n"),
+    ];
+    for (port, job, status, text) in rows {
+        let (found, sink, files) = solved(rt.alloc(), port, job)?;
+        assert_eq!(rt; found, status, "{job}");
+        assert_eq!(rt; sink.bytes(), text.as_bytes(), "{job}");
+        assert!(rt; files.content("CERT").is_none(), "{job}");
+    }
     Ok(())
 }
 
@@ -212,5 +355,60 @@ fn faults_of_the_outside(rt: HostRuntime) -> Result<(), Fail> {
         0,
         "the next doesn't"
     );
+    Ok(())
+}
+
+#[test]
+fn keeps_a_refusal_whose_line_fails(rt: HostRuntime) -> Result<(), Fail> {
+    let alloc = rt.alloc();
+    let words = words_of(alloc, "--help")?;
+    let mut files = MemoryFiles::new(alloc, Vec::new(alloc));
+    let mut sink = MemorySink::new(alloc, vec![in alloc; 1u64]?);
+    assert_eq!(rt; run(alloc, &words, &mut files, &mut sink), 2);
+    assert_eq!(rt; sink.bytes(), b"".as_slice(), "the write failed");
+    Ok(())
+}
+
+#[test]
+fn a_failing_append_leaves_a_front(rt: HostRuntime) -> Result<(), Fail> {
+    let alloc = rt.alloc();
+    let words = words_of(alloc, "solve PORT JOB CERT")?;
+    // the calls are two reads of each file, the start, and the appends of head, section and end mark
+    for k in 1..9u64 {
+        let mut files = MemoryFiles::new(alloc, vec![in alloc; k]?);
+        files.put("PORT", A.as_bytes())?;
+        files.put(
+            "JOB",
+            br#"{"lots":10,"held":2,"weights":[[1,1]],"nodes":0}"#.as_slice(),
+        )?;
+        let mut sink = MemorySink::new(alloc, Vec::new(alloc));
+        let status = run(alloc, &words, &mut files, &mut sink);
+        let due = if k < 5 { 3 } else { 4 };
+        assert_eq!(rt; status, due, "call {k}");
+        let bytes = files.content("CERT").unwrap_or(b"".as_slice());
+        let text = hexadecimal(alloc, bytes)?;
+        assert!(rt; bytes.len() < 191, "call {k}");
+        assert!(rt; CERTIFICATE.starts_with(text.as_str()), "call {k}");
+    }
+    Ok(())
+}
+
+#[test]
+fn a_failing_write_leaves_a_front(rt: HostRuntime) -> Result<(), Fail> {
+    let alloc = rt.alloc();
+    let words = words_of(alloc, "solve PORT JOB CERT")?;
+    for k in 1..5u64 {
+        let mut files = SteadyFiles::new(alloc);
+        files.put("PORT", A.as_bytes())?;
+        files.put(
+            "JOB",
+            br#"{"lots":10,"held":2,"weights":[[1,1]],"nodes":0}"#.as_slice(),
+        )?;
+        let mut sink = MemorySink::new(alloc, vec![in alloc; k]?);
+        let status = run(alloc, &words, &mut files, &mut sink);
+        assert_eq!(rt; status, 4, "write {k}");
+        let bytes = files.content("CERT").unwrap_or(b"".as_slice());
+        assert!(rt; bytes.len() < 191, "write {k}");
+    }
     Ok(())
 }

@@ -17,15 +17,35 @@ fn words_of(alloc: Global, args: env::Args) -> Option<Vec<String>> {
     Some(words)
 }
 
-fn main(rt: HostRuntime) -> ExitCode {
+/// What a status without a line of its own means, for standard error; None where a line or a report says it.
+fn meaning(status: u8) -> Option<&'static str> {
+    match status {
+        1 => Some("portgap: memory was refused"),
+        3 => Some("portgap: PORT or JOB couldn't be read"),
+        4 => Some("portgap: CERT or standard output couldn't be written"),
+        10 => Some("portgap: the words aren't UTF-8"),
+        _ => None,
+    }
+}
+
+/// Runs the program over the real files and standard output, and answers the exit status.
+fn status_of(rt: &HostRuntime) -> u8 {
     let alloc = rt.alloc();
-    let Ok(args) = env::args(&rt) else {
-        return ExitCode::from(10);
+    let Ok(args) = env::args(rt) else {
+        return 10;
     };
     let Some(words) = words_of(alloc, args) else {
-        return ExitCode::from(1);
+        return 1;
     };
-    let mut files = RealFiles::new(&rt, alloc);
-    let mut out = RealSink::new(&rt);
-    ExitCode::from(gap_top::run(alloc, &words, &mut files, &mut out))
+    let mut files = RealFiles::new(rt, alloc);
+    let mut out = RealSink::new(rt);
+    gap_top::run(alloc, &words, &mut files, &mut out)
+}
+
+fn main(rt: HostRuntime) -> ExitCode {
+    let status = status_of(&rt);
+    if let Some(text) = meaning(status) {
+        let _ = rt.eprintln(text);
+    }
+    ExitCode::from(status)
 }

@@ -57,13 +57,14 @@ fn job_of(seed: u32, n: u16, lots: u16, held: u16, turnover: Option<u32>) -> Job
     requires held_least { 1 ≤ held }
     requires held_most { held ≤ n }
     requires turnover { ForSome turnover (λ t. t ≤ 3000000) }
-    ensures limits { AreLimits n result.lots result.held result.least result.greatest result.present result.turnover }
+    ensures limits { AreLimits n result.lots result.held result.held_most result.least result.greatest result.present result.turnover }
     ensures lots { result.lots ≡ lots }
     ensures turnover { result.turnover ≡ turnover }
 {
     Job {
         lots,
         held,
+        held_most: held,
         least: between(seed, n, 1, lots),
         greatest: between(seed.wrapping_add(1), n, 1, lots),
         present: between(seed.wrapping_add(2), n, 0, 4),
@@ -131,6 +132,7 @@ pub(crate) fn two_assets(alloc: Global) -> Result<Instance, OutOfMemory>
     let job = Job {
         lots: 10,
         held: 2,
+        held_most: 2,
         least: between(0, 2, 1, 1),
         greatest: between(0, 2, 10, 10),
         present: between(0, 2, 0, 0),

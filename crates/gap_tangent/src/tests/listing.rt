@@ -7,8 +7,8 @@ use gap_box::{Cell, Part};
 use gap_instance::Instance;
 use gap_psd::Shift;
 
-/// Is the list one of the part's, with exactly K positive numbers?
-fn is_pick(part: &Part, held: u16, x: &Lots) -> bool
+/// Is the list one of the part's, with `fewest` to `most` positive numbers?
+fn is_pick(part: &Part, fewest: u16, most: u16, x: &Lots) -> bool
     requires { length x.now ≡ length part.now }
 {
     let mut count: u32 = 0;
@@ -23,7 +23,7 @@ fn is_pick(part: &Part, held: u16, x: &Lots) -> bool
             };
         count = count.wrapping_add(u32::from(v > 0));
     }
-    inside && count == u32::from(held)
+    inside && u32::from(fewest) <= count && count <= u32::from(most)
 }
 
 /// Row `i` of A times the point.
@@ -100,7 +100,7 @@ fn decoded(n: u16, code: u32) -> Option<Lots>
     if rest == 0 { Some(x) } else { None }
 }
 
-/// The least Lagrangian over all lists of the part with exactly K positive numbers, where none has more than 7 lots.
+/// The least Lagrangian over all lists of the part that hold from K1 to K2 assets, where none has more than 7 lots.
 pub(crate) fn listed(
     inst: &Instance,
     shift: &Shift,
@@ -115,7 +115,7 @@ pub(crate) fn listed(
     let mut least: Option<i128> = None;
     for code in 0..32768u32 {
         if let Some(x) = decoded(inst.n(), code) {
-            if is_pick(part, inst.held(), &x) {
+            if is_pick(part, inst.held(), inst.held_most(), &x) {
                 let value = lagrangian(inst, shift, weight, w, &x);
                 least = match least {
                     Some(known) => Some(known.min(value)),

@@ -1,13 +1,16 @@
 use Rattle.std.proofs.Common.{refl, Ok, ◌∙◌}
+use Rattle.std.proofs.lemmas.Result.{err_from_is_err_and}
 use Rattle.gap_job.specs.Entries.{with_present}
 use Rattle.gap_job.proofs.Walk.{goes_on, ends}
 use Rattle.gap_job.proofs.present.take_entries.Goals as goal
 
-pub returns-in-Err : goal.returns-in-Err
-returns-in-Err c =
+pub returns-in_err-take_entry : goal.returns-in_err-take_entry
+returns-in_err-take_entry c =
     let known = c.loop-entry.invariant in
-    ends (with_present c.args.n) (Ok c.args.present) c.args.entries.now c.loop-entry.entry-index c.entry-item.result c.loop-entry.present c.in-Err.fault
-    (λ d. refl) c.loop-entry-test.true c.entry-item.is known.so_far (rw known.named at c.in-Err.ensures.step)
+    let passed_on = err_from_is_err_and c.from_residual.result c.from_residual.ensures.1 in
+    rw (passed_on.1, passed_on.2)
+    (ends (with_present c.args.n) (Ok c.args.present) c.args.entries.now c.loop-entry.entry-index c.entry-item.result c.loop-entry.present c.in_err-take_entry.field-0.0
+    (λ d. refl) c.loop-entry-test.true c.entry-item.is known.so_far (rw known.named at c.in_err-take_entry.ensures.step))
 
 pub loop-entry-preserved : goal.loop-entry-preserved
 loop-entry-preserved c =
@@ -15,7 +18,7 @@ loop-entry-preserved c =
     let named = c.take_entry.ensures.named in
     record {
       so_far = goes_on (with_present c.args.n) (Ok c.args.present) c.args.entries.now c.loop-entry.entry-index c.entry-item.result c.loop-entry.present c.take_entry.new.present
-          c.loop-entry-test.true c.entry-item.is known.so_far (rw known.named at c.in-Ok.ensures.step);
+          c.loop-entry-test.true c.entry-item.is known.so_far (rw known.named at c.in_ok-take_entry.ensures.step);
       lots = c.take_entry.ensures.sizes ∙ named ∙ known.named;
       named = named ∙ known.named;
     }

@@ -1,7 +1,7 @@
 use Rattle.std.proofs.Common.{◌≡◌, ◌*◌, ◌≤◌, ◌*ℤ◌, unsigned_abs}
 use Rattle.gap_base.specs.Lots.{lots_at}
 use Rattle.gap_base.specs.Sums.{sum_below}
-use Rattle.gap_objective.specs.Shifts.{row_of}
+use Rattle.gap_objective.specs.Slopes.{row_of}
 use Rattle.gap_objective.proofs.totals.risk.Given as goal
 
 abbrev pub invariant-loop-i : goal.invariant-loop-i

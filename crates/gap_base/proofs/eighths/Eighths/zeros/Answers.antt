@@ -1,5 +1,5 @@
 use Rattle.std.proofs.Common.{◌^◌, lit<}
-use Rattle.gap_base.proofs.ListLaws.{small-zeros}
+use Rattle.gap_base.proofs.ListLaws.{small-filled}
 use Rattle.std.proofs.lemmas.List.{take-replicate}
 use Rattle.gap_base.proofs.eighths.Eighths.zeros.Goals as goal
 
@@ -7,4 +7,4 @@ pub returns : goal.returns
 returns c = take-replicate c.args.n 256 0 c.requires.most
 
 pub invariant_of-result : goal.invariant_of-result
-invariant_of-result c = (c.requires.least, c.requires.most, small-zeros 256 (2 ^ 32) (lit< tt))
+invariant_of-result c = (c.requires.least, c.requires.most, small-filled 256 0 (2 ^ 32) (lit< tt))

@@ -1,14 +1,10 @@
-use Rattle.std.proofs.lemmas.Int.{to_z-of_z}
-use Rattle.std.specs.Int.{w128}
+use Rattle.std.proofs.Common.{◌≡◌, length, subst, ℕ, arith}
+use Rattle.gap_objective.specs.Holdings.{IsFront}
+use Rattle.gap_objective.proofs.HoldingLaws.{IsFront-whole, holding_is}
 use Rattle.gap_objective.proofs.holding.Holding.new.Goals as goal
 
-pub invariant_of-result : goal.invariant_of-result
-invariant_of-result c =
-    rw (c.copy.ensures, to_z-of_z w128 c.risk.result (record { sfits = c.risk.type_inv }), to_z-of_z w128 c.ret.result (record { sfits = c.ret.type_inv }))
-    (record {
-      lots_are = c.requires;
-      risk_is = c.risk.ensures.value;
-      return_is = c.ret.ensures.value;
-      risk_small = c.risk.ensures.small;
-      return_small = c.ret.ensures.small;
-    })
+pub returns : goal.returns
+returns c =
+    let whole : c.loop-i.i ≡ length c.args.x.now = omega arith in
+    let front = subst (λ (k : ℕ). IsFront c.args.x.now k c.loop-i.holding.lots) whole c.loop-i.invariant.front in
+    holding_is c.loop-i.holding c.args.inst.now c.args.w c.args.x.now c.loop-i.invariant.instance_is c.loop-i.invariant.weight_is (IsFront-whole c.args.x.now c.loop-i.holding.lots front)

@@ -1,22 +1,25 @@
+use Rattle.std.proofs.Common.{◌≡◌, true, false, Bool, FitsSigned, lit<, refl, sym}
 use Rattle.std.proofs.lemmas.Int.{to_z-of_z}
+use Rattle.std.specs.Int.{w128}
 use Rattle.gap_base.specs.Lots.{lots_at}
-use Rattle.gap_tangent.specs.Bounds.{setting_with}
-use Rattle.gap_tangent.proofs.SettingLaws.{part_count}
-use Rattle.gap_tangent.proofs.ThetaFrom.{theta_from}
+use Rattle.gap_base.proofs.Machine.{fits_of}
+use Rattle.gap_box.specs.Parts.{can_meet}
+use Rattle.gap_model.proofs.ThetaLaws.{theta_none}
+use Rattle.gap_tangent.proofs.LineLaws.{theta_at_line, met_by}
 use Rattle.gap_tangent.proofs.tangent.Tangent.theta.Goals as goal
 
-pub returns : goal.returns
-returns c =
+pub returns-in-Some-clause-value : goal.returns-in-Some-clause-value
+returns-in-Some-clause-value c =
     let fa = c.ranges.alpha in
     let ft = c.ranges.tau in
-    let b = c.args.self.now.bound in
-    let t = c.args.self.now.terms in
-    let some = simp to_z-of_z at c.least_lagrangian.ensures.some in
-    theta_from (setting_with b.instance.now b.shift.now b.weight) c.args.part.now (lots_at c.args.self.now.y) t.slopes t.bends t.constant c.args.alpha c.args.tau c.least_lagrangian.result b.setting.instance_is.market_is c.len-cells.ensures.valid c.args.self.now.terms_are c.requires.multipliers.tau_unset some c.least_lagrangian.ensures.none
+    let s = c.args.self.now.setting in
+    let part = c.args.part.now in
+    let l = c.in-Some.line in
+    let fv : FitsSigned w128 l.value = fits_of l.value 10000000000000000000000000000000000000 l.value_small (lit< tt) in
+    let place = simp to_z-of_z at c.in-Some.ensures.place in
+    let line = simp to_z-of_z at c.in-Some.ensures.line in
+    let met = met_by (can_meet part s.instance.held s.instance.held_most) (λ f. let q = c.in-Some.ensures.none.1 f in cc) in
+    simp to_z-of_z (theta_at_line s part (lots_at c.args.self.now.eighths) c.args.alpha c.args.tau l c.len-cells.ensures.valid c.eighths-point.ensures.setting.instance_is.limits_are.held_range met place line)
 
-pub least_lagrangian-requires : goal.least_lagrangian-requires
-least_lagrangian-requires c =
-    let fa = c.ranges.alpha in
-    let ft = c.ranges.tau in
-    let b = c.args.self.now.bound in
-    simp to_z-of_z (record { part_length = part_count b.instance.now c.args.part.now b.setting.instance_is c.requires.within; small = c.args.self.now.small; multipliers = c.requires.multipliers })
+pub returns-in-None-clause-value : goal.returns-in-None-clause-value
+returns-in-None-clause-value c = sym (theta_none c.args.self.now.setting c.args.part.now (lots_at c.args.self.now.eighths) c.args.alpha c.args.tau c.len-cells.ensures.valid (c.in-None.ensures.none.0 refl))

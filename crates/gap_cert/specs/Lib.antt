@@ -1,0 +1,5 @@
+pub mod Bytes
+pub mod Formats
+pub mod Fields
+pub mod Contexts
+pub mod Certificates

@@ -1,0 +1,16 @@
+pub mod Yields
+pub mod Nexts
+pub mod HeadStages
+pub mod SectionStages
+pub mod StageLaws
+pub mod HistoryLaws
+pub mod Forests
+pub mod SoFar
+pub mod SoundHead
+pub mod Sound
+pub mod Follows
+pub mod Complete
+pub mod Faulty
+pub mod AcceptLaws
+pub mod NextLaws
+pub mod CheckerLaws

@@ -1,0 +1,29 @@
+use Rattle.std.proofs.Common.{◌≡◌, ◌⊎◌, inl, inr, Result, Ok, Err, sym, ap, ◌∙◌}
+use Rattle.gap_judge.specs.declared.stop.CertStop.{CertStop}
+use Rattle.gap_valid.specs.Verdicts.{VerdictValue}
+use Rattle.gap_check.proofs.CheckerLaws.{stop_end, reading_on, going_head, whole_yes, whole_all, whole_bound, short_none}
+use Rattle.gap_check.proofs.checker.Checker.finish.Goals as goal
+
+abbrev refused : CertStop → Result VerdictValue CertStop
+refused stop = Err stop
+
+abbrev told : VerdictValue → Result VerdictValue CertStop
+told v = Ok v
+
+pub returns-in-Some-clause-all : goal.returns-in-Some-clause-all
+returns-in-Some-clause-all c = λ fed v h a. inr (ap refused (stop_end c.args.self c.self.inside.scanner c.self.inside.judge c.self.inside.stop c.in-Some.stop fed v c.self.view_is c.in-Some.is h a))
+
+pub returns-then-not-is_ended-clause-all : goal.returns-then-not-is_ended-clause-all
+returns-then-not-is_ended-clause-all c = λ fed v h a. absurd (short_none c.self.inside.scanner c.self.inside.judge fed v (sym c.is_ended.ensures ∙ c.if-not-is_ended.true) (reading_on c.args.self c.self.inside.scanner c.self.inside.judge c.self.inside.stop fed c.self.view_is c.in_default.is h) a)
+
+pub into_verdict-requires : goal.into_verdict-requires
+into_verdict-requires c = going_head c.self.inside.scanner c.self.inside.judge c.self.inside.fed c.self.inside.stop c.self.invariant c.in_default.is (sym c.is_ended.ensures ∙ c.if-not-is_ended.false)
+
+pub returns-clause-yes : goal.returns-clause-yes
+returns-clause-yes c = λ fed h. rw c.into_verdict.ensures (whole_yes c.self.inside.scanner c.self.inside.judge fed (sym c.is_ended.ensures ∙ c.if-not-is_ended.false) (reading_on c.args.self c.self.inside.scanner c.self.inside.judge c.self.inside.stop fed c.self.view_is c.in_default.is h))
+
+pub returns-clause-all : goal.returns-clause-all
+returns-clause-all c = λ fed v h a. inl (ap told (c.into_verdict.ensures ∙ sym (whole_all c.self.inside.scanner c.self.inside.judge fed v (reading_on c.args.self c.self.inside.scanner c.self.inside.judge c.self.inside.stop fed c.self.view_is c.in_default.is h) a)))
+
+pub returns-clause-bound : goal.returns-clause-bound
+returns-clause-bound c = λ fed h. rw c.into_verdict.ensures (whole_bound c.self.inside.scanner c.self.inside.judge fed (sym c.is_ended.ensures ∙ c.if-not-is_ended.false) (reading_on c.args.self c.self.inside.scanner c.self.inside.judge c.self.inside.stop fed c.self.view_is c.in_default.is h))

@@ -1,0 +1,5 @@
+pub mod Histories
+pub mod States
+pub mod Accepting
+pub mod Stages
+pub mod Going

@@ -1,0 +1,9 @@
+//! The checker of certificates: it says yes exactly for the encodings of valid certificates, from the bytes alone, fed in
+//! pieces of any size, and else names the first fault and its place.
+#![tactic(auto)]
+
+mod checker;
+mod reading;
+
+pub use checker::Checker;
+pub use gap_judge::{CertStop, Verdict};

@@ -1,0 +1,3 @@
+pub mod DrivenLaws
+pub mod TurnLaws
+pub mod PlainLaws

@@ -1,0 +1,12 @@
+//! A search driven to its end by a guide, in rounds of its workers.
+#![tactic(auto)]
+
+mod driving;
+mod guide;
+mod rounds;
+
+pub use driving::drive;
+pub use guide::Guide;
+
+#[cfg(test)]
+mod tests;

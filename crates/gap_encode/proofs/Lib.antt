@@ -1,0 +1,5 @@
+pub mod Items
+pub mod Reaches
+pub mod Sections
+pub mod Heads
+pub mod Validity

@@ -1,0 +1,7 @@
+pub mod Progress
+pub mod Faults
+pub mod Ready
+pub mod Lines
+pub mod Stops
+pub mod Courses
+pub mod Steps

@@ -1,0 +1,5 @@
+pub mod OrderLaws
+pub mod EntryLaws
+pub mod TryLaws
+pub mod KindLaws
+pub mod CandidateLaws

@@ -1,0 +1,158 @@
+//! The witnesses that a tangent leaf is made of.
+
+ghost use Rattle.std.specs.Prelude.{◌≡◌, ◌⊎◌, ◌≤◌, true, IsSome, ℤ, pos, ◌≤ℤ◌, unsigned_abs};
+ghost use Rattle.gap_base.specs.Lots.{lots_at};
+ghost use Rattle.gap_base.specs.Sizes.{most_multiplier};
+ghost use Rattle.gap_box.specs.Parts.{can_meet, IsWithin, root_cells};
+ghost use Rattle.gap_model.specs.Leaves.{AreMultipliers};
+ghost use Rattle.gap_tangent.specs.Lines.{alpha_curve};
+ghost use Rattle.gap_tangent.specs.Seen.{setting_of};
+ghost use Rattle.gap_witness.specs.Having.{HasTangentPoint};
+ghost use Rattle.gap_leaf.specs.Candidates.{AreBestAt, IsMostAt, IsCandidate};
+
+use crate::best::{best_alpha_from, best_tau_from};
+use gap_base::Witness;
+use gap_box::Part;
+use gap_tangent::{MeanVariance, Tangent};
+use gap_witness::kept_tangent_point;
+
+/// Multipliers with theta there.
+#[derive(Clone, Copy)]
+pub(crate) struct Priced {
+    pub(crate) alpha: i128,
+    pub(crate) tau: i128,
+    pub(crate) theta: i128,
+}
+
+/// New multipliers of a tangent where the turnover isn't limited: the best alpha, looked for from `alpha`.
+fn plain_multipliers(tangent: &Tangent<'_>, part: &Part, alpha: i128) -> Priced
+    requires within { IsWithin part.now (root_cells tangent.now.setting.instance.least tangent.now.setting.instance.greatest) }
+    requires counted { can_meet part.now tangent.now.setting.instance.held tangent.now.setting.instance.held_most ≡ true }
+    requires alpha { unsigned_abs alpha ≤ most_multiplier }
+    ensures { AreBestAt tangent.now.setting part.now (lots_at tangent.now.eighths) result.alpha result.tau result.theta }
+{
+    let line = best_alpha_from(tangent, part, 0, alpha);
+    Priced {
+        alpha: line.place,
+        tau: 0,
+        theta: line.value,
+    }
+}
+
+/// New multipliers of a tangent where the turnover is limited: alpha is best for no price of the turnover, tau for this
+/// alpha, and then alpha for this tau. They are looked for from `alpha` and `tau`.
+fn turned_multipliers(tangent: &Tangent<'_>, part: &Part, alpha: i128, tau: i128) -> Priced
+    requires within { IsWithin part.now (root_cells tangent.now.setting.instance.least tangent.now.setting.instance.greatest) }
+    requires counted { can_meet part.now tangent.now.setting.instance.held tangent.now.setting.instance.held_most ≡ true }
+    requires limited { IsSome tangent.now.setting.instance.turnover }
+    requires alpha { unsigned_abs alpha ≤ most_multiplier }
+    requires tau { unsigned_abs tau ≤ most_multiplier }
+    requires tau_least { pos 0 ≤ℤ tau }
+    ensures { AreBestAt tangent.now.setting part.now (lots_at tangent.now.eighths) result.alpha result.tau result.theta }
+{
+    let first = best_alpha_from(tangent, part, 0, alpha);
+    let turned = best_tau_from(tangent, part, first.place, tau);
+    let last = best_alpha_from(tangent, part, turned.place, first.place);
+    Priced {
+        alpha: last.place,
+        tau: turned.place,
+        theta: last.value,
+    }
+}
+
+/// New multipliers of a tangent, looked for from `alpha` and `tau`.
+fn new_multipliers(
+    mv: &MeanVariance<'_>,
+    tangent: &Tangent<'_>,
+    part: &Part,
+    alpha: i128,
+    tau: i128,
+) -> Priced
+    requires same { tangent.now.setting ≡ setting_of mv.now }
+    requires within { IsWithin part.now (root_cells tangent.now.setting.instance.least tangent.now.setting.instance.greatest) }
+    requires counted { can_meet part.now tangent.now.setting.instance.held tangent.now.setting.instance.held_most ≡ true }
+    requires multipliers { AreMultipliers tangent.now.setting.instance.turnover alpha tau }
+    ensures { AreBestAt tangent.now.setting part.now (lots_at tangent.now.eighths) result.alpha result.tau result.theta }
+{
+    match mv.instance().turnover() {
+        Some(_) => turned_multipliers(tangent, part, alpha, tau),
+        None => plain_multipliers(tangent, part, alpha),
+    }
+}
+
+/// Theta of the part under these multipliers.
+fn theta_of(tangent: &Tangent<'_>, part: &Part, alpha: i128, tau: i128) -> i128
+    requires within { IsWithin part.now (root_cells tangent.now.setting.instance.least tangent.now.setting.instance.greatest) }
+    requires counted { can_meet part.now tangent.now.setting.instance.held tangent.now.setting.instance.held_most ≡ true }
+    requires multipliers { AreMultipliers tangent.now.setting.instance.turnover alpha tau }
+    ensures value { result ≡ alpha_curve tangent.now.setting part.now (lots_at tangent.now.eighths) tau alpha }
+    ensures small { unsigned_abs result ≤ 10000000000000000000000000000000000000 }
+{
+    match tangent.line_in_alpha(part, alpha, tau) {
+        Some(line) => line.value,
+        None => unreachable!(),
+    }
+}
+
+/// The better of multipliers and new ones, the new ones where they are equal.
+fn better(kept: Priced, new: Priced) -> Priced
+    ensures which { (result ≡ kept) ⊎ (result ≡ new) }
+    ensures kept_less { kept.theta ≤ℤ result.theta }
+    ensures new_less { new.theta ≤ℤ result.theta }
+{
+    if new.theta < kept.theta { kept } else { new }
+}
+
+/// The multipliers of a tangent that are kept: those given, or new ones where these are no worse.
+pub(crate) fn kept_multipliers(
+    mv: &MeanVariance<'_>,
+    tangent: &Tangent<'_>,
+    part: &Part,
+    alpha: i128,
+    tau: i128,
+) -> Priced
+    requires same { tangent.now.setting ≡ setting_of mv.now }
+    requires within { IsWithin part.now (root_cells tangent.now.setting.instance.least tangent.now.setting.instance.greatest) }
+    requires counted { can_meet part.now tangent.now.setting.instance.held tangent.now.setting.instance.held_most ≡ true }
+    requires multipliers { AreMultipliers tangent.now.setting.instance.turnover alpha tau }
+    ensures best { AreBestAt tangent.now.setting part.now (lots_at tangent.now.eighths) result.alpha result.tau result.theta }
+    ensures no_less { alpha_curve tangent.now.setting part.now (lots_at tangent.now.eighths) tau alpha ≤ℤ result.theta }
+{
+    let new = new_multipliers(mv, tangent, part, alpha, tau);
+    let theta = theta_of(tangent, part, alpha, tau);
+    better(Priced { alpha, tau, theta }, new)
+}
+
+/// The witness of the greatest theta of three: a hint as it is, given by its tangent and multipliers, its point with new
+/// multipliers, and the tangent point from it with new multipliers. Of equal ones the first, but new multipliers before
+/// those of the hint.
+pub(crate) fn best_witness(
+    mv: &MeanVariance<'_>,
+    tangent: &Tangent<'_>,
+    part: &Part,
+    alpha: i128,
+    tau: i128,
+) -> Witness
+    requires same { tangent.now.setting ≡ setting_of mv.now }
+    requires within { IsWithin part.now (root_cells tangent.now.setting.instance.least tangent.now.setting.instance.greatest) }
+    requires has { HasTangentPoint tangent.now.setting part.now }
+    requires multipliers { AreMultipliers tangent.now.setting.instance.turnover alpha tau }
+    ensures { IsCandidate tangent.now.setting part.now (record { y = tangent.now.eighths; alpha = alpha; tau = tau }) result }
+{
+    let kept = kept_multipliers(mv, tangent, part, alpha, tau);
+    let moved_point = kept_tangent_point(mv, part, tangent.eighths());
+    let moved_tangent = Tangent::of(&moved_point);
+    let moved = new_multipliers(mv, &moved_tangent, part, kept.alpha, kept.tau);
+    if kept.theta < moved.theta {
+        return Witness {
+            y: moved_point.eighths().copy(),
+            alpha: moved.alpha,
+            tau: moved.tau,
+        };
+    }
+    Witness {
+        y: tangent.eighths().copy(),
+        alpha: kept.alpha,
+        tau: kept.tau,
+    }
+}

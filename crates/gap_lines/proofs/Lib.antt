@@ -1,0 +1,4 @@
+pub mod LineLaws
+pub mod Sizes
+pub mod BracketLaws
+pub mod BestLaws

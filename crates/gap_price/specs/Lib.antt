@@ -1,0 +1,4 @@
+pub mod Costs
+pub mod Offers
+pub mod Curves
+pub mod CurveOf

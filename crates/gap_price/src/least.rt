@@ -1,0 +1,220 @@
+//! The least cost of a part's lists, for any multiplier.
+
+ghost use Rattle.std.specs.Prelude.{◌≡◌, ℕ, ◌*◌, ◌<◌, ◌≤◌, ◌↔◌, length, slice_index_or, ℤ, pos, ◌+ℤ◌, ◌*ℤ◌, unsigned_abs, IfSome, IsNone, IsFalse};
+ghost use Rattle.gap_box.specs.Parts.{can_meet};
+ghost use Rattle.gap_relax.specs.Choices.{cell_at};
+ghost use Rattle.gap_price.specs.Costs.{most_price};
+ghost use Rattle.gap_price.specs.Curves.{costs_with, curve_with, varied_price, IsLeastAt};
+ghost use Rattle.gap_price.specs.Offers.{candidates_of, AreSmall, least_offer, offer_of, AreTabled};
+ghost use Rattle.gap_price.specs.CurveOf.{curve_of};
+
+use crate::candidates::{Candidates, table_of};
+use crate::costs::{Costs, Varied};
+use crate::curve::CostCurve;
+use crate::offer::{Offer, cheapest, offer_at};
+use gap_box::{Cell, Part};
+use gap_relax::{Chosen, least_with_slope};
+
+impl<'a> CostCurve<'a> {
+    /// The curve of these costs over the part. None exactly where the count can't be met. It takes no memory, and costs
+    /// O(N).
+    pub fn new(
+        costs: Costs<'a>,
+        varied: Varied,
+        part: &'a Part,
+        fewest: u16,
+        most: u16,
+    ) -> Option<CostCurve<'a>>
+        requires linear { length costs.linear.now ≡ length part.now }
+        requires bends { length costs.bends.now ≡ length part.now }
+        requires present { length costs.present.now ≡ length part.now }
+        requires order { fewest ≤ most }
+        ensures some { IfSome result (λ c. curve_of c ≡ curve_with costs.entry varied part.now fewest most) }
+        ensures none { IsNone result ↔ IsFalse (can_meet part.now fewest most) }
+    {
+        if !part.count_within(fewest, most) {
+            return None;
+        }
+        let table = table_of(&costs, part);
+        Some(CostCurve {
+            costs,
+            varied,
+            part,
+            fewest,
+            most,
+            table,
+        })
+    }
+
+    /// The least cost at the multiplier over the lists, with the weight of one of them that has it: the slope of a line
+    /// that is nowhere below the curve. It takes no memory, and costs O(N log N) at most, O(N) on average.
+    pub fn at(&self, multiplier: i128) -> Chosen
+        requires multiplier { unsigned_abs multiplier ≤ most_price }
+        requires price { unsigned_abs (varied_price (curve_of self.now) +ℤ multiplier) ≤ most_price }
+        ensures least { IsLeastAt (curve_of self.now) multiplier result.value result.slope }
+        ensures value_small { unsigned_abs result.value ≤ 256 * 23000000000000000000000000000000000 }
+        ensures slope_small { unsigned_abs result.slope ≤ 256 * 10000 }
+    {
+        let mut held = [0; 256];
+        let mut out = [0; 256];
+        let mut held_weights = [0; 256];
+        let mut out_weights = [0; 256];
+        let n = usize::from(self.part.len());
+        self.least_in(
+            multiplier,
+            &mut held[..n],
+            &mut out[..n],
+            &mut held_weights[..n],
+            &mut out_weights[..n],
+        )
+    }
+
+    /// The same, with room for the costs and the weights of each cell.
+    fn least_in(
+        &self,
+        multiplier: i128,
+        held: &mut [i128],
+        out: &mut [i128],
+        held_weights: &mut [i32],
+        out_weights: &mut [i32],
+    ) -> Chosen
+        requires multiplier { unsigned_abs multiplier ≤ most_price }
+        requires price { unsigned_abs (varied_price (curve_of self.now) +ℤ multiplier) ≤ most_price }
+        requires held_length { length held.old ≡ length self.now.part.now }
+        requires out_length { length out.old ≡ length self.now.part.now }
+        requires held_weights_length { length held_weights.old ≡ length self.now.part.now }
+        requires out_weights_length { length out_weights.old ≡ length self.now.part.now }
+        ensures least { IsLeastAt (curve_of self.now) multiplier result.value result.slope }
+        ensures value_small { unsigned_abs result.value ≤ 256 * 23000000000000000000000000000000000 }
+        ensures slope_small { unsigned_abs result.slope ≤ 256 * 10000 }
+    {
+        let _length = self.part.len();
+        self.fill(multiplier, held, out, held_weights, out_weights);
+        match least_with_slope(
+            self.part,
+            held,
+            out,
+            held_weights,
+            out_weights,
+            self.fewest,
+            self.most,
+        ) {
+            Some(chosen) => chosen,
+            None => unreachable!(),
+        }
+    }
+
+    /// Writes for each place what holding its asset and not holding it cost at the multiplier, and their weights.
+    fn fill(
+        &self,
+        multiplier: i128,
+        held: &mut [i128],
+        out: &mut [i128],
+        held_weights: &mut [i32],
+        out_weights: &mut [i32],
+    )
+        requires multiplier { unsigned_abs multiplier ≤ most_price }
+        requires held_length { length held.old ≡ length self.now.part.now }
+        requires out_length { length out.old ≡ length self.now.part.now }
+        requires held_weights_length { length held_weights.old ≡ length self.now.part.now }
+        requires out_weights_length { length out_weights.old ≡ length self.now.part.now }
+        ensures { AreTabled (curve_of self.now) multiplier (length self.now.part.now) held.new out.new held_weights.new out_weights.new }
+    {
+        for i in 0..self.part.len() {
+            let holding = self.held_offer(multiplier, i);
+            let leaving = self.out_offer(multiplier, i);
+            let place = usize::from(i);
+            held[place] = holding.value;
+            out[place] = leaving.value;
+            held_weights[place] = holding.weight;
+            out_weights[place] = leaving.weight;
+        }
+    }
+
+    /// What the candidates at place `i` cost without the multiplier.
+    fn table_at(&self, i: u16) -> Candidates
+        requires { i < length self.now.part.now }
+        ensures value { result ≡ candidates_of (costs_with self.now.costs) i (cell_at self.now.part.now i) }
+        ensures small { AreSmall result }
+    {
+        let _length = self.part.len();
+        self.table[usize::from(i)]
+    }
+
+    /// The present lots of asset `i`.
+    fn present_at(&self, i: u16) -> u16
+        requires { i < length self.now.part.now }
+        ensures value { result ≡ slice_index_or self.now.costs.present.now i 0 }
+        ensures most { result ≤ 10000 }
+    {
+        let _length = self.part.len();
+        self.costs.present.get(i)
+    }
+
+    /// What holding the asset of the cell at place `i` costs at least; nothing where it is out.
+    fn held_offer(&self, multiplier: i128, i: u16) -> Offer
+        requires multiplier { unsigned_abs multiplier ≤ most_price }
+        requires there { i < length self.now.part.now }
+        ensures offer { result ≡ least_offer (curve_of self.now) multiplier i (cell_at self.now.part.now i) }
+        ensures weight_small { unsigned_abs result.weight ≤ 10000 }
+    {
+        let candidates = self.table_at(i);
+        let present = self.present_at(i);
+        match self.part.cell(i) {
+            Cell::Out => Offer {
+                value: 0,
+                weight: 0,
+            },
+            Cell::Held { l, u } => cheapest(candidates, multiplier, self.varied, l, u, present),
+            Cell::Free { l, u } => cheapest(candidates, multiplier, self.varied, l, u, present),
+        }
+    }
+
+    /// What not holding the asset at place `i` costs.
+    fn out_offer(&self, multiplier: i128, i: u16) -> Offer
+        requires multiplier { unsigned_abs multiplier ≤ most_price }
+        requires there { i < length self.now.part.now }
+        ensures offer { result ≡ offer_of (curve_of self.now) multiplier i 0 }
+        ensures weight_small { unsigned_abs result.weight ≤ 10000 }
+    {
+        let candidates = self.table_at(i);
+        let present = self.present_at(i);
+        offer_at(candidates.none, multiplier, self.varied, 0, present)
+    }
+}
+
+#[cfg(test)]
+mod tests {
+    use super::*;
+    use gap_base::Lots;
+
+    /// The least cost of two assets at a multiplier of a price.
+    fn at_two(varied: Varied, fewest: u16, most: u16, multiplier: i128) -> Option<(i128, i128)>
+        requires order { fewest ≤ most }
+        requires multiplier { unsigned_abs multiplier ≤ 1000 }
+    {
+        let ones = Lots::filled(2, 1);
+        let threes = Lots::filled(2, 3);
+        let part = Part::root(&ones, &threes);
+        let costs = Costs {
+            linear: &[5, -3],
+            bends: &[1, 0],
+            present: &ones,
+            lot_price: 0,
+            distance_price: 2,
+        };
+        let chosen = CostCurve::new(costs, varied, &part, fewest, most)?.at(multiplier);
+        Some((chosen.value, chosen.slope))
+    }
+
+    // By hand: of 0 to 3 lots the first asset costs 2, 4, 8, 10 and the second 2, -3, -4, -5.
+    #[test]
+    fn least_costs_of_two_assets(rt: HostRuntime) {
+        assert_eq!(rt; at_two(Varied::Lots, 1, 2, 0), Some((-3, 3)));
+        assert_eq!(rt; at_two(Varied::Lots, 2, 2, 0), Some((-1, 4)));
+        assert_eq!(rt; at_two(Varied::Lots, 0, 0, 0), Some((4, 0)));
+        assert_eq!(rt; at_two(Varied::Lots, 3, 3, 0), None);
+        assert_eq!(rt; at_two(Varied::Lots, 1, 2, 2), Some((1, 1)));
+        assert_eq!(rt; at_two(Varied::Distance, 1, 2, -2), Some((-9, 3)));
+    }
+}

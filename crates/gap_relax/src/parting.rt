@@ -1,0 +1,112 @@
+//! The price that parts the numbers of a least sum from the others.
+
+ghost use Rattle.std.specs.Prelude.{◌≡◌, ℕ, ◌-◌, ◌*◌, ◌<◌, ◌≤◌, length, List, Bool, not, cond, if◌then◌else◌, ℤ, pos, ◌+ℤ◌, int_lt, unsigned_abs};
+ghost use Rattle.gap_base.specs.Sums.{sum_below, count_if, at, AreWithin};
+ghost use Rattle.gap_relax.specs.Choices.{most_cost};
+ghost use Rattle.gap_relax.specs.Partings.{is_tie, takes, IsParted, IsAround};
+
+/// A price that parts the numbers that are taken from those that are left, and how many are taken.
+#[derive(Clone, Copy)]
+pub(crate) struct Parting {
+    pub(crate) price: i128,
+    pub(crate) count: usize,
+}
+
+/// How many numbers are below the price.
+#[tactic(auto, using(gap_base::proofs::Counts::count_steps))]
+pub(crate) fn count_below(numbers: &[i128], price: i128) -> usize
+    requires { length numbers.now ≤ 256 }
+    ensures count { result ≡ count_if (length numbers.now) (λ i. int_lt (at numbers.now i) price) }
+    ensures most { result ≤ length numbers.now }
+{
+    let mut count = 0;
+    for i in 0..numbers.len() {
+        count += one_below(numbers[i], price);
+    }
+    count
+}
+
+/// 1 where the number is below the price, else 0.
+fn one_below(number: i128, price: i128) -> usize
+    ensures value { result ≡ cond (int_lt number price) 1 0 }
+    ensures small { result ≤ 1 }
+{
+    if number < price { 1 } else { 0 }
+}
+
+/// The price that parts the numbers of a least sum from the others: 0 where as many are negative as may be taken, else
+/// the last of as many as come nearest.
+pub(crate) fn parting_of(numbers: &[i128], fewest: usize, most: usize) -> Parting
+    requires length { length numbers.now ≤ 256 }
+    requires numbers { AreWithin (2 * most_cost) numbers.now }
+    requires order { fewest ≤ most }
+    requires there { fewest ≤ length numbers.now }
+    ensures { IsParted (length numbers.now) fewest most (at numbers.now) result.price result.count }
+{
+    let negative = count_below(numbers, 0);
+    if negative < fewest {
+        return Parting {
+            price: nth_least(numbers, fewest),
+            count: fewest,
+        };
+    }
+    if negative <= most {
+        return Parting {
+            price: 0,
+            count: negative,
+        };
+    }
+    if most == 0 {
+        return Parting {
+            price: -60_000_000_000_000_000_000_000_000_000_000_000,
+            count: 0,
+        };
+    }
+    Parting {
+        price: nth_least(numbers, most),
+        count: most,
+    }
+}
+
+/// The `k`-th least of the numbers, counted from 1.
+fn nth_least(numbers: &[i128], k: usize) -> i128
+    requires length { length numbers.now ≤ 256 }
+    requires numbers { AreWithin (2 * most_cost) numbers.now }
+    requires least { 1 ≤ k }
+    requires most { k ≤ length numbers.now }
+    ensures { IsAround (length numbers.now) (at numbers.now) k result }
+{
+    let mut row = [0; 256];
+    nth_least_in(&mut row[..numbers.len()], numbers, k)
+}
+
+/// The same, with room for the numbers in another order.
+fn nth_least_in(row: &mut [i128], numbers: &[i128], k: usize) -> i128
+    requires length { length row.old ≡ length numbers.now }
+    requires numbers { AreWithin (2 * most_cost) numbers.now }
+    requires least { 1 ≤ k }
+    requires most { k ≤ length numbers.now }
+    ensures { IsAround (length numbers.now) (at numbers.now) k result }
+{
+    row.copy_from_slice(numbers);
+    let (_, last, _) = row.select_nth_unstable(k - 1);
+    *last
+}
+
+/// Is a number taken at a price, where `left` of those at the price may be?
+pub(crate) fn is_taken(price: i128, number: i128, left: usize) -> bool
+    ensures { result ≡ takes price number left }
+{
+    number < price || (!(price < number) && 0 < left)
+}
+
+/// How many of those at the price may be taken after this number.
+pub(crate) fn ties_after(price: i128, number: i128, left: usize) -> usize
+    ensures { result ≡ left - cond (is_tie price number) 1 0 }
+{
+    if number < price || price < number {
+        left
+    } else {
+        left.saturating_sub(1)
+    }
+}

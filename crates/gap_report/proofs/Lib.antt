@@ -1,0 +1,3 @@
+mod DecimalFronts
+mod HeldLaws
+mod TextLaws

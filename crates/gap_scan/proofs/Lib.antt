@@ -1,0 +1,5 @@
+pub mod EntryLaws
+pub mod ScanLaws
+pub mod ScannedLaws
+pub mod MoreLaws
+pub mod FaultLaws

@@ -1,0 +1,20 @@
+-- Each entry that is read leaves one fewer to read.
+use Rattle.std.proofs.Common.{arith, ap, ◌∙◌, ◌-◌, length, length-set}
+use Rattle.std.proofs.lemmas.Result.{err_from_is_err_and}
+use Rattle.gap_scan.proofs.EntryLaws.{loop_stops, loop_reads, loop_ends}
+use Rattle.gap_scan.proofs.groups.lots_entries.Goals as goal
+
+pub returns-in_err-entry-clause-read : goal.returns-in_err-entry-clause-read
+returns-in_err-entry-clause-read c =
+    let p = err_from_is_err_and c.from_residual.result c.from_residual.ensures.1 in
+    rw (p.1, p.2) (loop_stops _ _ _ _ _ _ _ _ _ _ _ _ _ c.loop-entry.invariant.0 c.loop-entry-test.true c.in_err-entry.ensures.read)
+
+pub loop-entry-preserved : goal.loop-entry-preserved
+loop-entry-preserved c = (
+  loop_reads _ _ _ _ _ _ _ _ _ _ _ _ _ _ _ c.loop-entry.invariant.0 c.loop-entry-test.true c.in_ok-entry.ensures.read c.set.ensures,
+  ap length c.set.ensures ∙ length-set c.loop-entry.x (c.in_ok-entry.entry.asset - 1) c.in_ok-entry.entry.number ∙ c.loop-entry.invariant.1,
+  omega (arith, c.in_ok-entry.ensures.range),
+)
+
+pub returns-clause-read : goal.returns-clause-read
+returns-clause-read c = loop_ends _ _ _ _ _ _ _ _ _ _ _ _ c.loop-entry.invariant.0 c.loop-entry-test.false

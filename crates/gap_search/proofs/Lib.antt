@@ -1,0 +1,10 @@
+pub mod HeldLaws
+pub mod BoardLaws
+pub mod PieceLaws
+pub mod KeptLaws
+pub mod OpenLaws
+pub mod ResumeLaws
+pub mod EndLaws
+pub mod PointLaws
+pub mod CoverLaws
+pub mod BarrenLaws

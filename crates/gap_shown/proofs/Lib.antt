@@ -1,0 +1,4 @@
+pub mod CountLaws
+pub mod TreeLaws
+pub mod LeafLaws
+pub mod EndLaws

@@ -1,0 +1,4 @@
+pub mod FloorLaws
+pub mod EndLaws
+pub mod OwedLaws
+pub mod SolvedLaws

@@ -1,0 +1,4 @@
+pub mod FillLaws
+pub mod RoundingLaws
+pub mod StartLaws
+pub mod StepLaws

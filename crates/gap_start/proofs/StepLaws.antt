@@ -1,0 +1,93 @@
+-- Laws of the steps to neighbours.
+use Rattle.std.proofs.Common.{◌≡◌, ℕ, ◌+◌, ◌-◌, ◌<◌, ◌≤◌, List, length, slice_index_or, slice_set, ℤ, pos, ◌+ℤ◌, ◌≤ℤ◌, ◌<ℤ◌, ◌⊎◌, inl, inr, sym, subst, arith, length-set, get_or-set_same, unsigned_abs}
+use Rattle.std.proofs.lemmas.Bool.{cases_lt}
+use Rattle.std.proofs.lemmas.Int.{ints}
+use Rattle.std.proofs.lemmas.List.{get_or_past}
+use Rattle.gap_instance.specs.Instances.{InstanceValue, IsInstance}
+use Rattle.gap_instance.specs.Limits.{MeetsLimits}
+use Rattle.gap_instance.specs.Neighbours.{IsMove, IsReplacement, HasNoBetterNeighbour, lot_moved, exchanged}
+use Rattle.gap_instance.specs.Objective.{objective}
+use Rattle.gap_start.specs.declared.step.Kind.{Kind}
+use Rattle.gap_start.specs.declared.step.Kind.TheVariants.{Move, Replace}
+use Rattle.gap_start.specs.Steps.{CanStep, stepped, HasRoom, NoneBelow, NoneBelowFrom, NoneBelowKind}
+
+-- a lower number is below still
+pub NoneBelow-lower : (I : InstanceValue) (p q : ℕ) (x : List ℕ) (v w : ℤ) (kind : Kind) (i j : ℕ) → NoneBelow I p q x v kind i j → w ≤ℤ v → NoneBelow I p q x w kind i j
+NoneBelow-lower I p q x v w kind i j none le can meets = let a = none can meets in omega (arith, ints)
+
+taker_moved : (x : List ℕ) (i j : ℕ) → j < length x → slice_index_or (lot_moved x i j) j 0 ≡ slice_index_or x j 0 + 1
+taker_moved x i j h = get_or-set_same (slice_set x i (slice_index_or x i 0 - 1)) j (slice_index_or x j 0 + 1) 0 (rw (length-set x i (slice_index_or x i 0 - 1)) h)
+
+taker_exchanged : (x : List ℕ) (i j : ℕ) → j < length x → slice_index_or (exchanged x i j) j 0 ≡ slice_index_or x i 0
+taker_exchanged x i j h = get_or-set_same (slice_set x i (slice_index_or x j 0)) j (slice_index_or x i 0) 0 (rw (length-set x i (slice_index_or x j 0)) h)
+
+-- a step to a list that meets the limits has room
+pub HasRoom-meets : (I : InstanceValue) (x : List ℕ) (kind : Kind) (i j : ℕ) → length x ≡ I.market.assets → j < I.market.assets → CanStep x kind i j → MeetsLimits I (stepped x kind i j) → HasRoom I x kind i j
+HasRoom-meets I x Move i j size h can meets =
+    let new = taker_moved x i j (rw size h) in
+    let most = meets.greatest_kept j h in
+    (can.0, can.1, can.2, omega arith)
+HasRoom-meets I x Replace i j size h can meets =
+    let new = taker_exchanged x i j (rw size h) in
+    let most = meets.greatest_kept j h in
+    let held = can.1 in
+    let least = meets.least_kept j h (omega arith) in
+    (can.1, can.2, omega arith, omega arith)
+
+-- where there is no room nothing is found
+pub NoneBelow-full : (I : InstanceValue) (p q : ℕ) (x : List ℕ) (v : ℤ) (kind : Kind) (i j : ℕ) → length x ≡ I.market.assets → j < I.market.assets → (HasRoom I x kind i j → ⊥) → NoneBelow I p q x v kind i j
+NoneBelow-full I p q x v kind i j size h full can meets = absurd (full (HasRoom-meets I x kind i j size h can meets))
+
+-- an asset that isn't held gives nothing
+pub NoneBelow-empty : (I : InstanceValue) (p q : ℕ) (x : List ℕ) (v : ℤ) (kind : Kind) (i : ℕ) → slice_index_or x i 0 ≡ 0 → NoneBelowFrom I p q x v kind i I.market.assets
+NoneBelow-empty I p q x v Move i e j h can meets = let a = can.1 in absurd (omega arith)
+NoneBelow-empty I p q x v Replace i e j h can meets = let a = can.1 in absurd (omega arith)
+
+inside : (x : List ℕ) (i : ℕ) → 0 < slice_index_or x i 0 → i < length x
+inside x i h = here (cases_lt i (length x))
+  where
+    here : (i < length x) ⊎ (length x ≤ i) → i < length x
+    here (inl l) = l
+    here (inr l) = let z = get_or_past x i 0 l in absurd (omega arith)
+
+-- where no step of either kind leads below the objective of a list, it has no better neighbour
+pub no_better : (I : InstanceValue) (p q : ℕ) (x : List ℕ) (v : ℤ) → length x ≡ I.market.assets → v ≡ objective I p q x → NoneBelowKind I p q x v Move → NoneBelowKind I p q x v Replace → HasNoBetterNeighbour I p q x
+no_better I p q x v size is moves replacements y near meets = by_kind near.0 near.1 near.2
+  where
+    by_kind : (i j : ℕ) → IsMove x y i j ⊎ IsReplacement x y i j → objective I p q x ≤ℤ objective I p q y
+    by_kind i j (inl m) =
+        let a : i < I.market.assets = rw (sym size) (inside x i m.from) in
+        let b : j < I.market.assets = rw (sym size) (inside x j m.to) in
+        let low = moves i a j b (m.other, m.from, m.to) (subst (MeetsLimits I) m.is meets) in
+        subst (λ (z : List ℕ). objective I p q x ≤ℤ objective I p q z) (sym m.is) (subst (λ (t : ℤ). t ≤ℤ objective I p q (lot_moved x i j)) is low)
+    by_kind i j (inr m) =
+        let a : i < I.market.assets = rw (sym size) (inside x i m.from) in
+        let b : j < I.market.assets = rw (sym size) m.inside in
+        let low = replacements i a j b (m.inside, m.from, m.to) (subst (MeetsLimits I) m.is meets) in
+        subst (λ (z : List ℕ). objective I p q x ≤ℤ objective I p q z) (sym m.is) (subst (λ (t : ℤ). t ≤ℤ objective I p q (exchanged x i j)) is low)
+
+-- a lower objective is less high
+pub height_falls : (I : InstanceValue) (p q : ℕ) (x y : List ℕ) → unsigned_abs (objective I p q x) ≤ 2000000000000000000000000000000000 → unsigned_abs (objective I p q y) ≤ 2000000000000000000000000000000000 → objective I p q y <ℤ objective I p q x → unsigned_abs (objective I p q y +ℤ pos 2000000000000000000000000000000000) < unsigned_abs (objective I p q x +ℤ pos 2000000000000000000000000000000000)
+height_falls I p q x y a b l = omega (arith, ints)
+
+-- a taker with room has fewer than 10000 lots
+pub room_small : (I : InstanceValue) (x : List ℕ) (i j : ℕ) → IsInstance I → j < I.market.assets → HasRoom I x Move i j → slice_index_or x j 0 < 10000
+room_small I x i j known h room = let a = room.3 in let b = known.limits_are.greatest_within.most j h in let c = known.limits_are.lots_most in omega arith
+
+-- one more taker, one more giver
+pub more_takers : (I : InstanceValue) (p q : ℕ) (x : List ℕ) (v w : ℤ) (kind : Kind) (i n : ℕ) → NoneBelowFrom I p q x v kind i n → w ≤ℤ v → NoneBelow I p q x w kind i n → NoneBelowFrom I p q x w kind i (n + 1)
+more_takers I p q x v w kind i n before le here j h = by_place (cases_lt j n)
+  where
+    by_place : (j < n) ⊎ (n ≤ j) → NoneBelow I p q x w kind i j
+    by_place (inl l) = NoneBelow-lower I p q x v w kind i j (before j l) le
+    by_place (inr l) = let e : n ≡ j = omega arith in subst (λ (k : ℕ). NoneBelow I p q x w kind i k) e here
+
+pub more_givers : (I : InstanceValue) (p q : ℕ) (x : List ℕ) (v w : ℤ) (kind : Kind) (n : ℕ) → ((k : ℕ) → k < n → NoneBelowFrom I p q x v kind k I.market.assets) → w ≤ℤ v → NoneBelowFrom I p q x w kind n I.market.assets → (k : ℕ) → k < n + 1 → NoneBelowFrom I p q x w kind k I.market.assets
+more_givers I p q x v w kind n before le here k h = by_place (cases_lt k n)
+  where
+    by_place : (k < n) ⊎ (n ≤ k) → NoneBelowFrom I p q x w kind k I.market.assets
+    by_place (inl l) = λ j m. NoneBelow-lower I p q x v w kind k j (before k l j m) le
+    by_place (inr l) = let e : n ≡ k = omega arith in subst (λ (i : ℕ). NoneBelowFrom I p q x w kind i I.market.assets) e here
+
+-- for the search of a step
+pub ruleset step_laws = (NoneBelow-full, NoneBelow-empty, NoneBelow-lower)

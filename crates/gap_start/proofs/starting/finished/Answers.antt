@@ -1,0 +1,8 @@
+use Rattle.gap_start.proofs.StartLaws.{meets_brought, first_within, within_between}
+use Rattle.gap_start.proofs.starting.finished.Goals as goal
+
+pub brought-holding-requires-clause-first : goal.brought-holding-requires-clause-first
+brought-holding-requires-clause-first c = within_between c.args.inst.now c.args.marks.now c.args.first.now c.requires.marks.known (first_within c.args.inst.now c.args.marks.now c.args.first.now c.requires.marks c.requires.first)
+
+pub polish-requires : goal.polish-requires
+polish-requires c = rw c.brought-holding.ensures.instance (meets_brought c.args.inst.now c.args.w.p c.args.w.q c.args.marks.now c.args.first.now c.brought-holding.result.lots c.requires.marks c.requires.first c.requires.gives c.brought-holding.ensures.brought)

@@ -1,0 +1,5 @@
+pub mod Choices
+pub mod Fills
+pub mod Roundings
+pub mod Starts
+pub mod Steps

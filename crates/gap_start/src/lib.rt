@@ -1,0 +1,14 @@
+//! A list of lots to start a search from, and the way to a list that has no better neighbour.
+#![tactic(auto)]
+
+mod fill;
+mod polishing;
+mod rounding;
+mod starting;
+mod step;
+#[cfg(test)]
+mod tests;
+
+pub use polishing::polish;
+pub use rounding::rounded;
+pub use starting::start;

@@ -1,0 +1,162 @@
+//! The steps from a list to its neighbours, and the best of them.
+
+ghost use Rattle.std.specs.Prelude.{◌≡◌, ◌≢◌, ℕ, ◌+◌, ◌-◌, ◌*◌, ◌<◌, ◌≤◌, ◌↔◌, length, slice_index_or, slice_set, IsTrue, IsFalse, IfSome, ◌≤ℤ◌, ◌<ℤ◌};
+ghost use Rattle.gap_instance.specs.Instances.{IsInstance, AreBetween};
+ghost use Rattle.gap_instance.specs.Limits.{MeetsLimits};
+ghost use Rattle.gap_instance.specs.Objective.{objective};
+ghost use Rattle.gap_start.specs.Steps.{CanStep, stepped, HasRoom, NoneBelow, NoneBelowFrom, NoneBelowKind, IsFound};
+
+use gap_base::Lots;
+use gap_instance::Instance;
+use gap_objective::Holding;
+
+/// How a neighbour of a list comes from it.
+#[derive(Clone, Copy, PartialEq, Eq, Debug)]
+pub enum Kind {
+    /// One lot goes from a held asset to another.
+    Move,
+    /// A held asset is replaced by one that isn't held, with the same lots.
+    Replace,
+}
+
+/// A step to a neighbour: the giver and the taker.
+#[derive(Clone, Copy, PartialEq, Eq, Debug)]
+pub struct Step {
+    pub kind: Kind,
+    pub from: u16,
+    pub to: u16,
+}
+
+/// The best step so far, and the objective after it; the objective of the list where there is none.
+#[derive(Clone, Copy)]
+pub struct Found {
+    pub value: i128,
+    pub step: Option<Step>,
+}
+
+/// The step to the neighbour with the least objective among those that meet the limits and are better than the list:
+/// of equal ones moves come before replacements, then the lower giver, then the lower taker. Costs O(N) for each held
+/// asset, and O(N) each time that a better one is found.
+pub fn best_step(h: &Holding<'_>) -> Found
+    ensures found { IsFound h.now.instance h.now.weight.p h.now.weight.q h.now.lots result }
+    ensures moves { NoneBelowKind h.now.instance h.now.weight.p h.now.weight.q h.now.lots result.value Kind.Move }
+    ensures replacements { NoneBelowKind h.now.instance h.now.weight.p h.now.weight.q h.now.lots result.value Kind.Replace }
+    ensures instance { IsInstance h.now.instance }
+{
+    let none = Found {
+        value: h.value(),
+        step: None,
+    };
+    let moved = best_of(h, Kind::Move, none);
+    best_of(h, Kind::Replace, moved)
+}
+
+/// The best step of one kind, where none was found that is as good.
+fn best_of(h: &Holding<'_>, kind: Kind, before: Found) -> Found
+    requires { IsFound h.now.instance h.now.weight.p h.now.weight.q h.now.lots before }
+    ensures found { IsFound h.now.instance h.now.weight.p h.now.weight.q h.now.lots result }
+    ensures better { result.value ≤ℤ before.value }
+    ensures none { NoneBelowKind h.now.instance h.now.weight.p h.now.weight.q h.now.lots result.value kind }
+    ensures instance { IsInstance h.now.instance }
+{
+    let mut found = before;
+    for i in 0..h.instance().n() {
+        found = best_from(h, kind, i, found);
+    }
+    found
+}
+
+/// The best step of one kind from asset `i`, where none was found that is as good.
+fn best_from(h: &Holding<'_>, kind: Kind, i: u16, before: Found) -> Found
+    requires giver { i < h.now.instance.market.assets }
+    requires before { IsFound h.now.instance h.now.weight.p h.now.weight.q h.now.lots before }
+    ensures found { IsFound h.now.instance h.now.weight.p h.now.weight.q h.now.lots result }
+    ensures better { result.value ≤ℤ before.value }
+    ensures none { NoneBelowFrom h.now.instance h.now.weight.p h.now.weight.q h.now.lots result.value kind i h.now.instance.market.assets }
+{
+    let mut found = before;
+    if h.lots().get(i) == 0 {
+        return found;
+    }
+    for j in 0..h.instance().n() {
+        found = better_of(h, kind, i, j, found);
+    }
+    found
+}
+
+/// The better one of a step and of what was found before.
+fn better_of(h: &Holding<'_>, kind: Kind, i: u16, j: u16, before: Found) -> Found
+    requires giver { i < h.now.instance.market.assets }
+    requires taker { j < h.now.instance.market.assets }
+    requires before { IsFound h.now.instance h.now.weight.p h.now.weight.q h.now.lots before }
+    ensures found { IsFound h.now.instance h.now.weight.p h.now.weight.q h.now.lots result }
+    ensures better { result.value ≤ℤ before.value }
+    ensures none { NoneBelow h.now.instance h.now.weight.p h.now.weight.q h.now.lots result.value kind i j }
+{
+    let x = h.lots();
+    if !has_room(h, kind, i, j) {
+        return before;
+    }
+    let value = value_after(h, kind, i, j);
+    if value < before.value && h.instance().keeps(&after(x, kind, i, j)).is_none() {
+        let step = Some(Step {
+            kind,
+            from: i,
+            to: j,
+        });
+        return Found { value, step };
+    }
+    before
+}
+
+/// Is this a step, and does the taker have room for what it gets?
+fn has_room(h: &Holding<'_>, kind: Kind, i: u16, j: u16) -> bool
+    requires giver { i < h.now.instance.market.assets }
+    requires taker { j < h.now.instance.market.assets }
+    ensures { IsTrue result ↔ HasRoom h.now.instance h.now.lots kind i j }
+{
+    let inst = h.instance();
+    let given = h.lots().get(i);
+    let taken = h.lots().get(j);
+    match kind {
+        Kind::Move => i != j && 0 < given && 0 < taken && taken < inst.hi(j),
+        Kind::Replace => 0 < given && taken == 0 && inst.lo(j) <= given && given <= inst.hi(j),
+    }
+}
+
+/// The objective after a step. Costs O(1).
+fn value_after(h: &Holding<'_>, kind: Kind, i: u16, j: u16) -> i128
+    requires giver { i < h.now.instance.market.assets }
+    requires taker { j < h.now.instance.market.assets }
+    requires room { HasRoom h.now.instance h.now.lots kind i j }
+    requires instance { IsInstance h.now.instance }
+    ensures { result ≡ objective h.now.instance h.now.weight.p h.now.weight.q (stepped h.now.lots kind i j) }
+{
+    match kind {
+        Kind::Move => h.moved_value(i, j, 1),
+        Kind::Replace => h.exchanged_value(i, j),
+    }
+}
+
+/// The list after a step.
+fn after(x: &Lots, kind: Kind, i: u16, j: u16) -> Lots
+    requires giver { i < length x.now }
+    requires taker { j < length x.now }
+    requires small { (k : ℕ) → k < length x.now → slice_index_or x.now k 0 ≤ 10000 }
+    ensures { result ≡ stepped x.now kind i j }
+{
+    let mut y = x.copy();
+    let given = x.get(i);
+    let taken = x.get(j);
+    match kind {
+        Kind::Move => {
+            y.set(i, given.saturating_sub(1));
+            y.set(j, taken + 1);
+        }
+        Kind::Replace => {
+            y.set(i, taken);
+            y.set(j, given);
+        }
+    }
+    y
+}

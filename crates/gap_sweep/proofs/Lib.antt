@@ -1,0 +1,11 @@
+pub mod DoneLaws
+pub mod TryLaws
+pub mod RowLaws
+pub mod LineLaws
+pub mod PutLaws
+pub mod OpenLaws
+pub mod PartLaws
+pub mod SweepLaws
+pub mod SpellLaws
+pub mod CertLaws
+pub mod FrontLaws

@@ -1,0 +1,337 @@
+-- What a run answers, by its ruling and its work.
+use Rattle.std.proofs.Common.{◌≡◌, ◌≢◌, ℕ, ◌≤◌, ◌⊎◌, inl, inr, List, [], ◌∷◌, Option, Some, None, IsSome, Result, Ok, Err, refl, sym, ap, ◌∙◌, subst, arith}
+use Rattle.gap_files.specs.Outside.{FilesNow, SinkNow, Rose, NoneFell, SameEverywhere, bytes_of}
+use Rattle.gap_words.specs.Forms.{FormValue, faulty, quick, solve, check, verify, demo}
+use Rattle.gap_words.specs.Names.{reads, writes, unnamed}
+use Rattle.gap_words.specs.Refusals.{refusal_line, refusal_status}
+use Rattle.gap_words.specs.declared.refusal.Refusal.{Refusal}
+use Rattle.gap_words.specs.declared.refusal.Refusal.TheVariants.{Words, NotBuilt, Port, Job, HeldRange, Certificate}
+use Rattle.gap_rule.specs.Names.{AreTold, AreHeld, RoseIn, SameOutside, held, told_bytes}
+use Rattle.gap_rule.specs.Rules.{Rules}
+use Rattle.gap_rule.specs.Steps.{IsLike, IsRuling, IsRuledForm, MayDo, MayRefuse, FitsForm, IsReady, work_in}
+use Rattle.gap_rule.specs.declared.stop.Halt.{Halt}
+use Rattle.gap_rule.specs.declared.stop.Halt.TheVariants as halt
+use Rattle.gap_rule.specs.declared.task.Task.{Task}
+use Rattle.gap_rule.specs.declared.task.Task.TheVariants.{Quick, Solve}
+use Rattle.gap_top.specs.Answers.{Answers, Comes, FailedIn}
+use Rattle.gap_top.specs.Statuses.{status_number, IsOneOf, IsStatusOf, Allows}
+use Rattle.gap_top.specs.Steps.{Refuses, EndsBy}
+use Rattle.gap_top.specs.Working.{cert_in, asked_by, ended_by, Sweeps, Performs}
+use Rattle.gap_sweep.specs.Asked.{Asked}
+use Rattle.gap_sweep.specs.Runs.{Runs}
+use Rattle.gap_trace.specs.declared.halt.Halt.{Halt as Stopped}
+use Rattle.gap_trace.specs.declared.halt.Halt.TheVariants as trace
+use Rattle.gap_trace.specs.Steps.{HasCause, Keeps}
+use Rattle.gap_top.specs.declared.stop.Stop.{Stop}
+use Rattle.gap_top.specs.declared.stop.Stop.TheVariants.{Refused, ReadFault, WriteFault, OutOfMemory}
+
+-- the statuses of a form
+may_one : (asked : FormValue) → IsStatusOf asked 1
+may_one faulty = inl refl
+may_one (quick port q) = inr (inl refl)
+may_one (solve port job cert) = inr (inl refl)
+may_one (check cert) = inl refl
+may_one (verify port job cert) = inl refl
+may_one (demo q) = inl refl
+
+may_zero : (asked : FormValue) (task : Task) → MayDo asked task → IsStatusOf asked 0
+may_zero (quick port q) (Quick work) may = inl refl
+may_zero (quick port q) (Solve work) may = absurd may
+may_zero (solve port job cert) (Solve work) may = inl refl
+may_zero (solve port job cert) (Quick work) may = absurd may
+may_zero faulty (Quick work) may = absurd may
+may_zero faulty (Solve work) may = absurd may
+may_zero (check cert) (Quick work) may = absurd may
+may_zero (check cert) (Solve work) may = absurd may
+may_zero (verify port job cert) (Quick work) may = absurd may
+may_zero (verify port job cert) (Solve work) may = absurd may
+may_zero (demo q) (Quick work) may = absurd may
+may_zero (demo q) (Solve work) may = absurd may
+
+may_four : (asked : FormValue) (task : Task) → MayDo asked task → IsStatusOf asked 4
+may_four (quick port q) (Quick work) may = inr (inr (inr (inl refl)))
+may_four (quick port q) (Solve work) may = absurd may
+may_four (solve port job cert) (Solve work) may = inr (inr (inr (inl refl)))
+may_four (solve port job cert) (Quick work) may = absurd may
+may_four faulty (Quick work) may = absurd may
+may_four faulty (Solve work) may = absurd may
+may_four (check cert) (Quick work) may = absurd may
+may_four (check cert) (Solve work) may = absurd may
+may_four (verify port job cert) (Quick work) may = absurd may
+may_four (verify port job cert) (Solve work) may = absurd may
+may_four (demo q) (Quick work) may = absurd may
+may_four (demo q) (Solve work) may = absurd may
+
+-- a form that has a task writes its certificate's file alone
+writes_cert : (asked : FormValue) (task : Task) → MayDo asked task → writes asked ≡ cert_in asked ∷ []
+writes_cert (quick port q) (Quick work) may = refl
+writes_cert (quick port q) (Solve work) may = absurd may
+writes_cert (solve port job cert) (Solve work) may = refl
+writes_cert (solve port job cert) (Quick work) may = absurd may
+writes_cert faulty (Quick work) may = absurd may
+writes_cert faulty (Solve work) may = absurd may
+writes_cert (check cert) (Quick work) may = absurd may
+writes_cert (check cert) (Solve work) may = absurd may
+writes_cert (verify port job cert) (Quick work) may = absurd may
+writes_cert (verify port job cert) (Solve work) may = absurd may
+writes_cert (demo q) (Quick work) may = absurd may
+writes_cert (demo q) (Solve work) may = absurd may
+
+-- the work of a task that a form may have can be done
+pub ready_work : (asked : FormValue) (task : Task) → FitsForm asked (Ok task) → IsReady (work_in task)
+ready_work (quick port q) (Quick work) may = may
+ready_work (quick port q) (Solve work) may = absurd may
+ready_work (solve port job cert) (Solve work) may = may
+ready_work (solve port job cert) (Quick work) may = absurd may
+ready_work faulty (Quick work) may = absurd may
+ready_work faulty (Solve work) may = absurd may
+ready_work (check cert) (Quick work) may = absurd may
+ready_work (check cert) (Solve work) may = absurd may
+ready_work (verify port job cert) (Quick work) may = absurd may
+ready_work (verify port job cert) (Solve work) may = absurd may
+ready_work (demo q) (Quick work) may = absurd may
+ready_work (demo q) (Solve work) may = absurd may
+
+may_three : (asked : FormValue) (f g : FilesNow) → RoseIn (reads asked) f g → IsStatusOf asked 3
+may_three faulty f g rose = absurd rose
+may_three (quick port q) f g rose = inr (inr (inl refl))
+may_three (solve port job cert) f g rose = inr (inr (inl refl))
+may_three (check cert) f g rose = inr (inl refl)
+may_three (verify port job cert) f g rose = inr (inl refl)
+may_three (demo q) f g rose = absurd rose
+
+may_refuse : (asked : FormValue) (why : Refusal) → MayRefuse asked why → IsStatusOf asked (refusal_status why)
+may_refuse faulty why same = subst (λ (x : Refusal). IsStatusOf faulty (refusal_status x)) (sym same) (inr (inl refl))
+may_refuse (quick port q) (Port fault) may = inr (inr (inr (inr (inl refl))))
+may_refuse (quick port q) HeldRange may = inr (inr (inr (inr (inr (inl refl)))))
+may_refuse (quick port q) NotBuilt may = absurd may
+may_refuse (quick port q) Words may = absurd may
+may_refuse (quick port q) (Job fault) may = absurd may
+may_refuse (quick port q) (Certificate fault) may = absurd may
+may_refuse (solve port job cert) NotBuilt may = absurd may
+may_refuse (solve port job cert) Words may = absurd may
+may_refuse (solve port job cert) (Port fault) may = inr (inr (inr (inr (inl refl))))
+may_refuse (solve port job cert) (Job fault) may = inr (inr (inr (inr (inr (inl refl)))))
+may_refuse (solve port job cert) HeldRange may = absurd may
+may_refuse (solve port job cert) (Certificate fault) may = absurd may
+may_refuse (check cert) NotBuilt may = inr (inr (inl refl))
+may_refuse (check cert) Words may = absurd may
+may_refuse (check cert) (Port fault) may = absurd may
+may_refuse (check cert) (Job fault) may = absurd may
+may_refuse (check cert) HeldRange may = absurd may
+may_refuse (check cert) (Certificate fault) may = absurd may
+may_refuse (verify port job cert) NotBuilt may = inr (inr (inl refl))
+may_refuse (verify port job cert) Words may = absurd may
+may_refuse (verify port job cert) (Port fault) may = absurd may
+may_refuse (verify port job cert) (Job fault) may = absurd may
+may_refuse (verify port job cert) HeldRange may = absurd may
+may_refuse (verify port job cert) (Certificate fault) may = absurd may
+may_refuse (demo q) NotBuilt may = inr (inl refl)
+may_refuse (demo q) Words may = absurd may
+may_refuse (demo q) (Port fault) may = absurd may
+may_refuse (demo q) (Job fault) may = absurd may
+may_refuse (demo q) HeldRange may = absurd may
+may_refuse (demo q) (Certificate fault) may = absurd may
+
+-- the status of a refusal is neither 3 nor 4
+not_three : (why : Refusal) → refusal_status why ≡ 3 → ⊥
+not_three Words e = omega arith
+not_three NotBuilt e = omega arith
+not_three (Port fault) e = omega arith
+not_three (Job fault) e = omega arith
+not_three HeldRange e = omega arith
+not_three (Certificate fault) e = omega arith
+
+not_four : (why : Refusal) → refusal_status why ≡ 4 → ⊥
+not_four Words e = omega arith
+not_four NotBuilt e = omega arith
+not_four (Port fault) e = omega arith
+not_four (Job fault) e = omega arith
+not_four HeldRange e = omega arith
+not_four (Certificate fault) e = omega arith
+
+-- a ruling allows want of memory and a read fault
+allows_one : (r : Result Task Refusal) → Allows r 1
+allows_one (Ok task) = inr (inl refl)
+allows_one (Err why) = inr (inl refl)
+
+allows_three : (r : Result Task Refusal) → Allows r 3
+allows_three (Ok task) = inr (inr (inl refl))
+allows_three (Err why) = inr (inr (inl refl))
+
+-- rulings that come to the same allow the same statuses
+allows_like : (a b : Result Task Refusal) (n : ℕ) → IsLike a b → Allows a n → Allows b n
+allows_like (Ok task) (Ok other) n like allows = allows
+allows_like (Ok task) (Err why) n like allows = absurd like
+allows_like (Err why) (Ok task) n like allows = absurd like
+allows_like (Err why) (Err other) n like allows = subst (λ (m : ℕ). IsOneOf (m ∷ 1 ∷ 3 ∷ []) n) like allows
+
+-- what files tell, as what they hold
+held_told : (names : List (List ℕ)) (f : FilesNow) → AreTold names f → AreHeld names (held f) f
+held_told [] f told = tt
+held_told (name ∷ names) f (some, rest) = (held_one (f.content name) some, held_told names f rest)
+  where
+    held_one : (o : Option (Option (List ℕ))) → IsSome o → (content : Option (List ℕ)) × ((o ≡ Some content) × (told_bytes o ≡ bytes_of content))
+    held_one None some = absurd (cc)
+    held_one (Some content) some = (content, (refl, refl))
+
+-- what a run leaves of the files and the sink
+record IsKept (asked : FormValue) (f : FilesNow) (s : SinkNow) (g : FilesNow) (t : SinkNow) : Type 0 where
+  contents : SameOutside (writes asked) f.content g.content
+  others : SameOutside (reads asked) f.read_faults g.read_faults
+  later : NoneFell f.read_faults g.read_faults
+  writes_others : SameOutside (writes asked) f.write_faults g.write_faults
+  writes_later : NoneFell f.write_faults g.write_faults
+  sink_later : s.faults ≤ t.faults
+
+same_le : (a b : ℕ) → b ≡ a → a ≤ b
+same_le a b e = omega arith
+
+le_same : (a b c : ℕ) → a ≤ b → c ≡ b → a ≤ c
+le_same a b c h e = omega arith
+
+same_le_on : (a b c : ℕ) → b ≡ a → b ≤ c → a ≤ c
+same_le_on a b c e h = omega arith
+
+-- a ruling alone leaves this
+kept_calm : (asked : FormValue) (f : FilesNow) (s : SinkNow) (g : FilesNow) (t : SinkNow) (r : Result Task Halt) → IsRuledForm asked f g r → s.faults ≤ t.faults → IsKept asked f s g t
+kept_calm asked f s g t r ruled later = record {
+  contents = λ other none. ruled.contents other;
+  others = ruled.others;
+  later = ruled.later;
+  writes_others = λ other none. ruled.writes other;
+  writes_later = λ other. same_le _ _ (ruled.writes other);
+  sink_later = later;
+}
+
+outside_one : {T : Type 0} (name : List ℕ) (old mid new : List ℕ → T) → SameEverywhere old mid → ((other : List ℕ) → other ≢ name → new other ≡ mid other) → SameOutside (name ∷ []) old new
+outside_one name old mid new same elsewhere = λ other none. elsewhere other none.0 ∙ same other
+
+-- a ruling and a sweep leave this
+kept_swept : (asked : FormValue) (f m : FilesNow) (s : SinkNow) (g : FilesNow) (t : SinkNow) (task : Task) → writes asked ≡ cert_in asked ∷ [] → IsRuledForm asked f m (Ok task) → Keeps (cert_in asked) m s g t → IsKept asked f s g t
+kept_swept asked f m s g t task one ruled keeps = record {
+  contents = subst (λ (names : List (List ℕ)). SameOutside names f.content g.content) (sym one) (outside_one (cert_in asked) f.content m.content g.content ruled.contents keeps.contents);
+  others = λ other none. keeps.reads other ∙ ruled.others other none;
+  later = λ other. le_same _ _ _ (ruled.later other) (keeps.reads other);
+  writes_others = subst (λ (names : List (List ℕ)). SameOutside names f.write_faults g.write_faults) (sym one) (outside_one (cert_in asked) f.write_faults m.write_faults g.write_faults ruled.writes keeps.others);
+  writes_later = λ other. same_le_on _ _ _ (ruled.writes other) (keeps.later_files other);
+  sink_later = keeps.later_sink;
+}
+
+-- what is ruled, and what came of it
+comes_of : (asked : FormValue) (f : FilesNow) (s : SinkNow) (g : FilesNow) (t : SinkNow) (r : Result Task Refusal) (n : ℕ) → ((holds : List ℕ → List ℕ) → AreHeld (reads asked) holds f → IsRuling (Rules asked holds) r) → IsStatusOf asked n → Allows r n → (n ≡ 3 → ⊥) → (n ≡ 4 → Rose s.faults t.faults ⊎ FailedIn (writes asked) f g) → Comes r (cert_in asked) f s g t n → IsKept asked f s g t → Answers asked f s g t n
+comes_of asked f s g t r n ruling possible allowed unread rose comes kept = record {
+  possible = possible;
+  ruled = λ told other rules. allows_like r other n ((ruling (held f) (held_told (reads asked) f told)).only other rules) allowed;
+  settled = λ told. inr (record { ruling = r; rules = (ruling (held f) (held_told (reads asked) f told)).holds; comes = comes });
+  read_fault = λ three. absurd (unread three);
+  looked = λ told three. absurd (unread three);
+  write_fault = rose;
+  silent = λ three. absurd (unread three);
+  contents = kept.contents;
+  others = kept.others;
+  later = kept.later;
+  writes_others = kept.writes_others;
+  writes_later = kept.writes_later;
+  sink_later = kept.sink_later;
+}
+
+-- a sweep was run from the files m on
+performed : (asked : FormValue) (f m : FilesNow) (s : SinkNow) (g : FilesNow) (t : SinkNow) (task : Task) (r : Result (Unit {0}) Stop) → IsRuledForm asked f m (Ok task) → Sweeps (asked_by task) (cert_in asked) m s g t r → Performs task (cert_in asked) f s g t (status_number r)
+performed asked f m s g t task r ruled sweeps = record {
+  m = m;
+  contents = ruled.contents;
+  write_faults = ruled.writes;
+  result = r;
+  sweeps = sweeps;
+  status_is = refl;
+}
+
+-- why a sweep stopped with a write fault
+rose_one : (name : List ℕ) (f m : FilesNow) (s : SinkNow) (g : FilesNow) (t : SinkNow) → SameEverywhere f.write_faults m.write_faults → Rose s.faults t.faults ⊎ Rose (m.write_faults name) (g.write_faults name) → Rose s.faults t.faults ⊎ FailedIn (name ∷ []) f g
+rose_one name f m s g t same (inl rose) = inl rose
+rose_one name f m s g t same (inr rose) = inr (inl (subst (λ (n : ℕ). Rose n (g.write_faults name)) (same name) rose))
+
+rose_of : (asked : FormValue) (f m : FilesNow) (s : SinkNow) (g : FilesNow) (t : SinkNow) → writes asked ≡ cert_in asked ∷ [] → SameEverywhere f.write_faults m.write_faults → HasCause (cert_in asked) m s g t (Err trace.WriteFault) → Rose s.faults t.faults ⊎ FailedIn (writes asked) f g
+rose_of asked f m s g t one same cause =
+    subst (λ (names : List (List ℕ)). Rose s.faults t.faults ⊎ FailedIn names f g) (sym one) (rose_one (cert_in asked) f m s g t same cause)
+
+swept_done : (asked : FormValue) (f m : FilesNow) (s : SinkNow) (g : FilesNow) (t : SinkNow) (task : Task) (swept : Result (Unit {0}) Stopped) → IsRuledForm asked f m (Ok task) → MayDo asked task → Runs (asked_by task) (cert_in asked) m s g t swept → Answers asked f s g t (status_number (ended_by swept))
+swept_done asked f m s g t task (Ok done) ruled may runs =
+    comes_of asked f s g t (Ok task) 0 ruled.tells (may_zero asked task may) (inl refl) (λ e. omega arith) (λ e. absurd (omega arith))
+    (performed asked f m s g t task (Ok done) ruled (record { swept = Ok done; runs = runs; ended = refl })) (kept_swept asked f m s g t task (writes_cert asked task may) ruled runs.keeps)
+swept_done asked f m s g t task (Err trace.WriteFault) ruled may runs =
+    comes_of asked f s g t (Ok task) 4 ruled.tells (may_four asked task may) (inr (inr (inr (inl refl)))) (λ e. omega arith) (λ e. rose_of asked f m s g t (writes_cert asked task may) ruled.writes runs.cause)
+    (performed asked f m s g t task (Err WriteFault) ruled (record { swept = Err trace.WriteFault; runs = runs; ended = refl })) (kept_swept asked f m s g t task (writes_cert asked task may) ruled runs.keeps)
+swept_done asked f m s g t task (Err trace.OutOfMemory) ruled may runs =
+    comes_of asked f s g t (Ok task) 1 ruled.tells (may_one asked) (inr (inl refl)) (λ e. omega arith) (λ e. absurd (omega arith))
+    (performed asked f m s g t task (Err OutOfMemory) ruled (record { swept = Err trace.OutOfMemory; runs = runs; ended = refl })) (kept_swept asked f m s g t task (writes_cert asked task may) ruled runs.keeps)
+
+-- a task was done, or stopped on the way
+answers_work : (asked : FormValue) (f m : FilesNow) (s : SinkNow) (g : FilesNow) (t : SinkNow) (task : Task) (r : Result (Unit {0}) Stop) → IsRuledForm asked f m (Ok task) → FitsForm asked (Ok task) → Sweeps (asked_by task) (cert_in asked) m s g t r → Answers asked f s g t (status_number r)
+answers_work asked f m s g t task r ruled may sweeps =
+    subst (λ (x : Result (Unit {0}) Stop). Answers asked f s g t (status_number x)) (sym sweeps.ended) (swept_done asked f m s g t task sweeps.swept ruled may sweeps.runs)
+
+-- the same where its certificate goes into the file of this name
+pub answers_named : (asked : FormValue) (name : List ℕ) (f m : FilesNow) (s : SinkNow) (g : FilesNow) (t : SinkNow) (task : Task) (r : Result (Unit {0}) Stop) → name ≡ cert_in asked → IsRuledForm asked f m (Ok task) → FitsForm asked (Ok task) → Sweeps (asked_by task) name m s g t r → Answers asked f s g t (status_number r)
+answers_named asked name f m s g t task r same ruled may sweeps =
+    answers_work asked f m s g t task r ruled may (subst (λ (x : List ℕ). Sweeps (asked_by task) x m s g t r) same sweeps)
+
+answers_refusal : (asked : FormValue) (f : FilesNow) (s : SinkNow) (g : FilesNow) (t : SinkNow) (why : Refusal) (stop : Stop) → IsRuledForm asked f g (Err (halt.Refused why)) → MayRefuse asked why → Refuses why s t stop → Answers asked f s g t (status_number (Err stop))
+answers_refusal asked f s g t why stop ruled may refuses =
+    elim refuses.stops [
+      | inl stands ↦ subst (λ (x : Stop). Answers asked f s g t (status_number (Err x))) (sym stands)
+          (comes_of asked f s g t (Err why) (refusal_status why) ruled.tells (may_refuse asked why may) (inl refl) (λ e. not_three why e) (λ e. absurd (not_four why e)) (inl (refl, refuses.line stands), ruled.contents) (kept_calm asked f s g t _ ruled refuses.later))
+      | inr none ↦ subst (λ (x : Stop). Answers asked f s g t (status_number (Err x))) (sym none)
+          (comes_of asked f s g t (Err why) 1 ruled.tells (may_one asked) (inr (inl refl)) (λ e. omega arith) (λ e. absurd (omega arith)) (inr (refl, refuses.quiet none), ruled.contents) (kept_calm asked f s g t _ ruled refuses.later))
+    ]
+
+-- a file couldn't be read
+answers_unread : (asked : FormValue) (f : FilesNow) (s : SinkNow) (g : FilesNow) → IsRuledForm asked f g (Err halt.ReadFault) → Answers asked f s g s 3
+answers_unread asked f s g ruled = record {
+  possible = may_three asked f g ruled.cause;
+  ruled = λ told r rules. allows_three r;
+  settled = λ told. inl (record { status_is = inr (inl refl); unwritten = refl; contents = ruled.contents });
+  read_fault = λ three. ruled.cause;
+  looked = λ told three. ruled.looks_cause (held f) (held_told (reads asked) f told);
+  write_fault = λ four. absurd (omega arith);
+  silent = λ three. refl;
+  contents = λ other none. ruled.contents other;
+  others = ruled.others;
+  later = ruled.later;
+  writes_others = λ other none. ruled.writes other;
+  writes_later = λ other. same_le _ _ (ruled.writes other);
+  sink_later = omega arith;
+}
+
+-- memory was refused while it was ruled
+answers_no_memory : (asked : FormValue) (f : FilesNow) (s : SinkNow) (g : FilesNow) → IsRuledForm asked f g (Err halt.OutOfMemory) → Answers asked f s g s 1
+answers_no_memory asked f s g ruled = record {
+  possible = may_one asked;
+  ruled = λ told r rules. allows_one r;
+  settled = λ told. inl (record { status_is = inl refl; unwritten = refl; contents = ruled.contents });
+  read_fault = λ three. absurd (omega arith);
+  looked = λ told three. absurd (omega arith);
+  write_fault = λ four. absurd (omega arith);
+  silent = λ three. absurd (omega arith);
+  contents = λ other none. ruled.contents other;
+  others = ruled.others;
+  later = ruled.later;
+  writes_others = λ other none. ruled.writes other;
+  writes_later = λ other. same_le _ _ (ruled.writes other);
+  sink_later = omega arith;
+}
+
+unwritten : (asked : FormValue) (f : FilesNow) (s : SinkNow) (g : FilesNow) (t : SinkNow) (stop ended : Stop) → ended ≡ stop → t ≡ s → Answers asked f s g s (status_number (Err stop)) → Answers asked f s g t (status_number (Err ended))
+unwritten asked f s g t stop ended same silent answers =
+    subst (λ (x : SinkNow). Answers asked f s g x (status_number (Err ended))) (sym silent) (subst (λ (x : Stop). Answers asked f s g s (status_number (Err x))) (sym same) answers)
+
+-- a run that has no task to do
+pub answers_end : (asked : FormValue) (f : FilesNow) (s : SinkNow) (g : FilesNow) (t : SinkNow) (stop : Halt) (ended : Stop) → IsRuledForm asked f g (Err stop) → FitsForm asked (Err stop) → EndsBy stop s t ended → Answers asked f s g t (status_number (Err ended))
+answers_end asked f s g t (halt.Refused why) ended ruled may ends = answers_refusal asked f s g t why ended ruled may ends
+answers_end asked f s g t halt.ReadFault ended ruled may ends = unwritten asked f s g t ReadFault ended ends.0 ends.1 (answers_unread asked f s g ruled)
+answers_end asked f s g t halt.OutOfMemory ended ruled may ends = unwritten asked f s g t OutOfMemory ended ends.0 ends.1 (answers_no_memory asked f s g ruled)
+
+-- the same of words by another name of their form, and of a status by its number
+pub answers_as : (asked form : FormValue) (f : FilesNow) (s : SinkNow) (g : FilesNow) (t : SinkNow) (number status : ℕ) → asked ≡ form → status ≡ number → Answers asked f s g t number → Answers form f s g t status
+answers_as asked form f s g t number status same is answers = subst (λ (x : FormValue). Answers x f s g t status) same (subst (λ (n : ℕ). Answers asked f s g t n) (sym is) answers)

@@ -1,0 +1,62 @@
+-- What is to be done for a task, and what came of it. Own to portgap.
+use Rattle.std.specs.Prelude.{◌≡◌, ℕ, List, Result, Ok, Err}
+use Rattle.gap_files.specs.Outside.{FilesNow, SinkNow, SameEverywhere}
+use Rattle.gap_words.specs.Forms.{FormValue, faulty, quick, solve, check, verify, demo}
+use Rattle.gap_words.specs.Names.{unnamed}
+use Rattle.gap_model.specs.declared.outcome.Told.{Told}
+use Rattle.gap_rule.specs.declared.task.Task.{Task}
+use Rattle.gap_rule.specs.declared.task.Task.TheVariants.{Quick, Solve}
+use Rattle.gap_rule.specs.declared.task.Work.{Work}
+use Rattle.gap_sweep.specs.declared.style.Style.{Style}
+use Rattle.gap_sweep.specs.declared.style.Style.TheVariants.{Whole, Single}
+use Rattle.gap_sweep.specs.Asked.{Asked, Done}
+use Rattle.gap_sweep.specs.Runs.{Runs}
+use Rattle.gap_trace.specs.declared.halt.Halt.{Halt}
+use Rattle.gap_trace.specs.declared.halt.Halt.TheVariants as halt
+use Rattle.gap_top.specs.Statuses.{status_number}
+use Rattle.gap_top.specs.declared.stop.Stop.{Stop}
+use Rattle.gap_top.specs.declared.stop.Stop.TheVariants.{WriteFault, OutOfMemory}
+
+-- the name of the file into which a command's certificate goes: CERT, or the unnamed file
+abbrev pub cert_in : FormValue → List ℕ
+cert_in faulty = unnamed
+cert_in (quick port asked) = unnamed
+cert_in (solve port job cert) = cert
+cert_in (check cert) = unnamed
+cert_in (verify port job cert) = unnamed
+cert_in (demo asked) = unnamed
+
+-- what a sweep is asked for some work, in a style
+abbrev pub asked_for : Style → Work → Asked
+asked_for style work = record { instance = work.inst; rounded = work.rounded; weights = work.weights; nodes = work.nodes; style = style }
+
+-- what a sweep is asked for a task: `quick` prints the lines of its weight alone
+abbrev pub asked_by : Task → Asked
+asked_by (Quick work) = asked_for Single work
+asked_by (Solve work) = asked_for Whole work
+
+-- what a run ends with, by what its sweep ended with
+abbrev pub ended_by : Result (Unit {0}) Halt → Result (Unit {0}) Stop
+ended_by (Ok done) = Ok done
+ended_by (Err halt.WriteFault) = Err WriteFault
+ended_by (Err halt.OutOfMemory) = Err OutOfMemory
+
+-- a sweep was run, from the files f and the sink s to g and t, and this is what the run ends with
+pub record Sweeps (asked : Asked) (name : List ℕ) (f : FilesNow) (s : SinkNow) (g : FilesNow) (t : SinkNow) (result : Result (Unit {0}) Stop) : Type 0 where
+  pub swept : Result (Unit {0}) Halt
+  pub runs : Runs asked name f s g t swept
+  pub ended : result ≡ ended_by swept
+
+-- a task ended with a status: from the files m on, which have the contents and the counts of write faults that f has, since
+-- between the two files were read alone, its sweep was run
+pub record Performs (task : Task) (name : List ℕ) (f : FilesNow) (s : SinkNow) (g : FilesNow) (t : SinkNow) (status : ℕ) : Type 0 where
+  pub m : FilesNow
+  pub contents : SameEverywhere f.content m.content
+  pub write_faults : SameEverywhere f.write_faults m.write_faults
+  pub result : Result (Unit {0}) Stop
+  pub sweeps : Sweeps (asked_by task) name m s g t result
+  pub status_is : status ≡ status_number result
+
+-- what is told of a weight that was done
+abbrev pub told_of : Done → Told
+told_of d = record { weight = d.solved.weight; outcome = d.solved.outcome }

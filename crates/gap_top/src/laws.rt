@@ -1,0 +1,40 @@
+//! What follows from the contract of `run`, as contracts. Nothing is computed here.
+ghost use Rattle.std.specs.Prelude.{◌≡◌, ℕ, ◌⊎◌, List, All, Ok, Err};
+ghost use Rattle.gap_base.specs.Markets.{MarketValue};
+ghost use Rattle.gap_base.specs.declared.job.Job.{Job};
+ghost use Rattle.gap_instance.specs.Instances.{instance_of};
+ghost use Rattle.gap_model.specs.Outcomes.{IsToldRight};
+ghost use Rattle.gap_psd.specs.Shifts.{ShiftValue};
+ghost use Rattle.gap_rule.specs.Tasks.{work_of};
+ghost use Rattle.gap_sweep.specs.Asked.{Done};
+ghost use Rattle.gap_sweep.specs.Runs.{HasDone};
+ghost use Rattle.gap_sweep.specs.declared.style.Style.{Style};
+ghost use Rattle.gap_top.specs.Working.{asked_for, told_of};
+ghost use Rattle.gap_files.specs.Outside.{FilesNow, SinkNow, Rose};
+ghost use Rattle.gap_words.specs.Forms.{FormValue};
+ghost use Rattle.gap_words.specs.Names.{reads, writes};
+ghost use Rattle.gap_words.specs.Refusals.{refusal_status};
+ghost use Rattle.gap_words.specs.declared.refusal.Refusal.{Refusal};
+ghost use Rattle.gap_rule.specs.Names.{AreTold, RoseIn, held};
+ghost use Rattle.gap_rule.specs.Rules.{Rules};
+ghost use Rattle.gap_rule.specs.declared.task.Task.{Task};
+ghost use Rattle.gap_top.specs.Answers.{Answers, FailedIn};
+
+/// Completeness: where the contents of the files are told and no count rose, a task is done or memory was wanted, and a
+/// refusal has its own status or memory was wanted.
+pub fn answers_are_complete()
+    ensures done { (asked : FormValue) (f : FilesNow) (s : SinkNow) (g : FilesNow) (t : SinkNow) (status : ℕ) (task : Task)
+        → Answers asked f s g t status → AreTold (reads asked) f → Rules asked (held f) (Ok task)
+        → ¬ (RoseIn (reads asked) f g) → ¬ (Rose s.faults t.faults) → ¬ (FailedIn (writes asked) f g) → (status ≡ 0) ⊎ (status ≡ 1) }
+    ensures refused { (asked : FormValue) (f : FilesNow) (s : SinkNow) (g : FilesNow) (t : SinkNow) (status : ℕ) (why : Refusal)
+        → Answers asked f s g t status → AreTold (reads asked) f → Rules asked (held f) (Err why)
+        → ¬ (RoseIn (reads asked) f g) → (status ≡ refusal_status why) ⊎ (status ≡ 1) }
+{}
+
+/// What is told of each weight that was done is right for the market and the job of the files, as they say them: a portfolio
+/// meets every limit and has exactly its objective, none that meets the limits is below the bound, and that there is none is
+/// told only where there is none.
+pub fn answers_are_right()
+    ensures { (style : Style) (market : MarketValue) (job : Job) (shift : ShiftValue) (done : List Done)
+        → HasDone (asked_for style (work_of market job)) shift done → All (λ d. IsToldRight (instance_of market job) (told_of d)) done }
+{}

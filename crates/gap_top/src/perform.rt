@@ -1,0 +1,65 @@
+//! The work of a task: a certificate goes into its file, and the lines to the sink.
+ghost use Rattle.std.specs.Prelude.{◌≡◌};
+ghost use Rattle.gap_rule.specs.Steps.{IsReady, work_in};
+ghost use Rattle.gap_top.specs.Working.{asked_for, asked_by, ended_by, Sweeps};
+
+use crate::stop::Stop;
+use gap_files::{Files, Sink};
+use gap_rule::{Task, Work};
+use gap_sweep::{Style, solve_all};
+use gap_trace::Halt;
+use std::alloc::Global;
+
+/// What a run ends with, by what its sweep ended with.
+fn ended(swept: Result<(), Halt>) -> Result<(), Stop>
+    ensures { result ≡ ended_by swept }
+{
+    match swept {
+        Ok(()) => Ok(()),
+        Err(Halt::WriteFault) => Err(Stop::WriteFault),
+        Err(Halt::OutOfMemory) => Err(Stop::OutOfMemory),
+    }
+}
+
+/// Solves the weights of some work, over the named file and the sink.
+fn sweep<F: Files, S: Sink>(
+    alloc: Global,
+    work: &Work,
+    style: Style,
+    name: &str,
+    files: &mut F,
+    out: &mut S,
+) -> Result<(), Stop>
+    requires { IsReady work.now }
+    ensures { Sweeps (asked_for style work.now) name.now (F.files files.old) (S.sink out.old) (F.files files.new) (S.sink out.new) result }
+{
+    ended(solve_all(
+        alloc,
+        &work.inst,
+        work.rounded,
+        &work.weights,
+        work.nodes,
+        work.workers,
+        style,
+        files,
+        name,
+        out,
+    ))
+}
+
+/// Does what is to be done: the certificate goes into the named file.
+pub(crate) fn perform<F: Files, S: Sink>(
+    alloc: Global,
+    task: &Task,
+    name: &str,
+    files: &mut F,
+    out: &mut S,
+) -> Result<(), Stop>
+    requires { IsReady (work_in task.now) }
+    ensures { Sweeps (asked_by task.now) name.now (F.files files.old) (S.sink out.old) (F.files files.new) (S.sink out.new) result }
+{
+    match task {
+        Task::Quick(work) => sweep(alloc, work, Style::Single, name, files, out),
+        Task::Solve(work) => sweep(alloc, work, Style::Whole, name, files, out),
+    }
+}

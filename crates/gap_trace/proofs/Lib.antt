@@ -1,0 +1,4 @@
+pub mod MarkLaws
+pub mod StepLaws
+pub mod DrainLaws
+mod PutLaws

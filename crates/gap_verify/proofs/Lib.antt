@@ -1,0 +1,3 @@
+pub mod SaidSame
+pub mod FirstLaws
+pub mod SideLaws

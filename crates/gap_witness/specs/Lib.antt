@@ -1,0 +1,5 @@
+pub mod Places
+pub mod Cutting
+pub mod Points
+pub mod Having
+pub mod Frames

@@ -1,0 +1,363 @@
+#!/usr/bin/env python3
+"""Feeds the built program with damaged port files, jobs and certificates, and holds it to tools/reference.py.
+
+    tools/fuzz.py --count 100000 --seed 1
+
+The inputs hang on the seed alone. Of each one the program has to answer, twice with the same bytes: a status of the table,
+nothing on standard error, the line of the refusal that the reference finds at its place, or the whole report; `check` and
+`verify` accept whatever `solve` wrote, and say of each weight what `solve` printed; `check` accepts of the damaged
+certificates exactly those that the reference finds valid. Prints each input that isn't so into a file, and answers 1.
+Python's standard library alone.
+"""
+
+import argparse
+import json
+import math
+import os
+import random
+import re
+import subprocess
+import sys
+import tempfile
+import time
+
+import reference
+from reference import Refused
+
+HERE = os.path.dirname(os.path.abspath(__file__))
+PROGRAM = os.path.join(HERE, "..", "crates", "portgap", "out", "portgap")
+USAGE = (
+    b"usage: portgap quick PORT HELD LOTS P Q NODES | solve PORT JOB CERT | check CERT | "
+    b"verify PORT JOB CERT | demo NUMBER N HELD LOTS NODES"
+)
+
+
+class Broken(Exception):
+    """The program broke a promise."""
+
+
+def said(refused):
+    return refused.status, refused.line.encode() + b"\n"
+
+
+class Runner:
+    def __init__(self, program, folder):
+        self.program, self.folder = os.path.abspath(program), folder
+        self.runs = 0
+
+    def put(self, name, data):
+        with open(os.path.join(self.folder, name), "wb") as file:
+            file.write(data)
+
+    def get(self, name):
+        with open(os.path.join(self.folder, name), "rb") as file:
+            return file.read()
+
+    def once(self, words):
+        self.runs += 1
+        done = subprocess.run(
+            [self.program, *words], cwd=self.folder, stdin=subprocess.DEVNULL, capture_output=True, timeout=120
+        )
+        if done.returncode < 0:
+            raise Broken(f"{words}: ended by signal {-done.returncode}")
+        if done.returncode not in (0, 2, 5, 6, 7, 8):
+            raise Broken(f"{words}: status {done.returncode}: {done.stderr[:200]!r}")
+        if done.stderr:
+            raise Broken(f"{words}: said {done.stderr[:200]!r} on standard error")
+        return done.returncode, done.stdout
+
+    def run(self, *words):
+        """The status and what was printed, the same in two runs."""
+        first = self.once(words)
+        if self.once(words) != first:
+            raise Broken(f"{words}: two runs differ")
+        return first
+
+    def expect(self, wanted, *words):
+        found = self.run(*words)
+        if found != wanted:
+            raise Broken(f"{words}: answered {found}, wanted {wanted}")
+
+
+# ---- inputs
+
+
+def drawn_market(draw):
+    """A port file of 2 to 6 assets with one factor, and so with correlations that a market can have."""
+    n = draw.randint(2, 6)
+    loads = [draw.randint(-900, 900) for _ in range(n)]
+    lines = [str(n)]
+    for _ in range(n):
+        lines.append(f"{draw.randint(-2000, 8000) / 10**6:.6f} {draw.randint(0, 80000) / 10**6:.6f}")
+    for i in range(n):
+        for j in range(i + draw.choice((0, 1)), n):
+            rho = 1000000 if i == j else loads[i] * loads[j]
+            lines.append(f"{i + 1} {j + 1} {rho / 10**6:.6f}" if draw.random() < 0.8 else f"{j + 1} {i + 1} {rho}e-6")
+    listed = [line for line in lines if line]
+    data = "\n".join(listed).encode() + b"\n"
+    try:
+        reference.read_port(data)
+    except Refused:
+        return b"2\n.001 .1\n.002 .2\n1 2 0\n"
+    return data
+
+
+def drawn_job(draw, n):
+    lots = draw.randint(1, 12)
+    low = draw.randint(1, n)
+    job = {"lots": lots, "held": draw.choice((low, [low, draw.randint(low, n)])), "nodes": draw.randint(0, 12)}
+    if draw.random() < 0.4:
+        job["least"] = draw.randint(1, lots)
+    if draw.random() < 0.4:
+        job["greatest"] = draw.randint(1, lots)
+    if draw.random() < 0.4:
+        some = draw.sample(range(1, n + 1), draw.randint(0, n))
+        job["limits"] = [[asset, draw.randint(1, lots), draw.randint(1, lots)] for asset in some]
+    if draw.random() < 0.4:
+        some = draw.sample(range(1, n + 1), draw.randint(0, n))
+        job["present"] = [[asset, draw.randint(0, lots)] for asset in some]
+        job["turnover"] = draw.randint(0, 2 * lots)
+    if draw.random() < 0.3:
+        job["workers"] = draw.randint(1, 16)
+    weights = []
+    for _ in range(draw.randint(1, 4)):
+        q = draw.randint(1, 100)
+        weights.append([draw.randint(0, q), q])
+    job["weights"] = weights
+    return json.dumps(job).encode()
+
+
+WORDS = [b"0", b"1", b"-1", b".5", b"1e1", b"1e99", b"+", b"null", b"true", b"{}", b"[]", b'"a"', b",", b":", b"]", b"}",
+         b"65536", b"18446744073709551616", b"1.000001", b"-0", b"2.0", b"\x1a", b"\xff", b" ", b"\n"]
+
+
+VALUES = [None, True, False, "10", [], {}, [[]], [1], [1, 2], [2, 1], [1, 2, 3], [[1]], [[1, 1]], [[1, 1], [1, 1]], [[1, 1, 1]],
+          [[9, 1, 1]], [[0, 1]], [[2, 20000]], [[1, 0]], [[3, 2]], 0, 1, 2, 7, 16, 17, 100, 101, 10000, 10001, 100000, 100001,
+          3000000, 3000001, -1, 1.0, 1.5, 2**64 - 1, 2**64, [[k % 2, 1] for k in range(101)], [[0, 1]] * 102]
+
+
+def odd_job(draw, data):
+    """The job with one or two values changed, keys taken or unknown ones put in."""
+    job = json.loads(data)
+    for _ in range(draw.choice((1, 1, 2))):
+        key = draw.choice(reference.KEYS)
+        way = draw.randint(0, 9)
+        if way == 0:
+            job.pop(key, None)
+        elif way == 1:
+            job[draw.choice(("", "Lots", "zeta", "held ", "a\u00e9", "\U0001f600"))] = 1
+        else:
+            job[key] = draw.choice(VALUES)
+    keys = list(job)
+    draw.shuffle(keys)
+    return json.dumps({key: job[key] for key in keys}, indent=draw.choice((None, 1))).encode()
+
+
+def damaged(draw, data):
+    """The bytes with one to three changes: a byte changed, taken or put in, a piece moved, a word put in, or cut short."""
+    data = bytearray(data)
+    for _ in range(draw.choice((1, 1, 1, 2, 3))):
+        place = draw.randint(0, max(len(data) - 1, 0))
+        way = draw.choice((0, 1, 1, 1, 2, 2, 2, 3, 3, 3, 4, 5, 6, 7))
+        if not data or way == 0:
+            data.insert(place, draw.randint(0, 255))
+        elif way == 1:
+            data[place] = draw.randint(0, 255)
+        elif way == 2:
+            data[place] = (data[place] + draw.choice((1, -1))) % 256
+        elif way == 3:
+            data[place] ^= 1 << draw.randint(0, 7)
+        elif way == 4:
+            del data[place]
+        elif way == 5:
+            end = min(place + draw.randint(1, 20), len(data))
+            piece = bytes(data[place:end])
+            del data[place:end]
+            data[draw.randint(0, len(data)):0] = piece
+        elif way == 6:
+            data[place:place] = draw.choice(WORDS)
+        else:
+            del data[place:]
+    return bytes(data)
+
+
+# ---- what is tried
+
+
+def try_port(runner, draw):
+    data = damaged(draw, drawn_market(draw))
+    runner.put("port", data)
+    held = 1
+    try:
+        market = reference.read_port(data)
+    except Refused as refused:
+        runner.expect(said(refused), "quick", "port", "1", "5", "1", "2", "0")
+        return
+    status, text = runner.run("quick", "port", str(held), "5", "1", "2", "0")
+    if status != 0 or not re.fullmatch(rb"weight 1/2 (closed|open|none) nodes 0[^\n]*\n(lots( \d+:\d+)+\n)?", text):
+        raise Broken(f"quick on a market of {market.n} assets answered {status}, {text!r}")
+
+
+def told(lines):
+    """The lines of the verdict that a report promises."""
+    return [re.sub(rb" nodes \d+", b"", line) for line in lines if line.startswith(b"weight ")]
+
+
+def solve(runner, market, job):
+    runner.put("port", market)
+    runner.put("job", job)
+    status, text = runner.run("solve", "port", "job", "cert")
+    return status, text.split(b"\n")[:-1]
+
+
+def try_job(runner, draw):
+    market = drawn_market(draw)
+    damage = draw.choice((odd_job, odd_job, damaged))
+    job = damage(draw, drawn_job(draw, reference.read_port(market).n))
+    runner.put("port", market)
+    runner.put("job", job)
+    try:
+        asked = reference.read_job(job, reference.read_port(market).n)
+    except Refused as refused:
+        runner.expect(said(refused), "solve", "port", "job", "cert")
+        return
+    if asked.nodes > 1000:
+        return
+    status, lines = solve(runner, market, job)
+    if status != 0:
+        raise Broken(f"solve answered {status}, {lines}")
+    accepted(runner, lines)
+
+
+def accepted(runner, lines):
+    """What `solve` wrote is accepted by `check`, by `verify` and by the reference, with the same lines."""
+    verdict = b"".join(line + b"\n" for line in told(lines)) + b"yes\n"
+    runner.expect((0, verdict), "check", "cert")
+    runner.expect((0, verdict), "verify", "port", "job", "cert")
+    head, weights, found = reference.read_certificate(runner.get("cert"))
+    if [line.encode() for line in found] != told(lines):
+        raise Broken(f"the reference reads {found}")
+    if math.comb(head.lots + head.n - 1, head.n - 1) <= 1000:
+        every = list(reference.lists(head))
+        for weight, line in zip(weights, found):
+            judge(head, weight, line, min((head.objective(weight, x) for x in every), default=None))
+
+
+def judge(head, weight, line, best):
+    """What a verdict line says holds of the least objective of all lists; None where no list meets the limits."""
+    state, numbers = line.split()[2], re.findall(r"(-?[0-9]+)/[0-9]+", line)[1:]
+    if state == "none" or best is None:
+        right = best is None and (state == "none" or len(numbers) == 1)
+    elif state == "closed":
+        right = numbers == [str(best), str(best)]
+    else:
+        right = int(numbers[-1]) <= best and (len(numbers) == 1 or best <= int(numbers[0]))
+    if not right:
+        raise Broken(f"of {weight} in {head.lots} lots the least objective is {best}, and the program says {line}")
+
+
+def answer_of(read):
+    try:
+        return 0, b"".join(line.encode() + b"\n" for line in read()) + b"yes\n"
+    except Refused as refused:
+        return said(refused)
+
+
+def try_certificate(runner, draw):
+    market = drawn_market(draw)
+    job = drawn_job(draw, reference.read_port(market).n)
+    status, lines = solve(runner, market, job)
+    if status != 0:
+        raise Broken(f"solve answered {status}, {lines}")
+    accepted(runner, lines)
+    whole = runner.get("cert")
+    for _ in range(12):
+        data = damaged(draw, whole)
+        runner.put("cert", data)
+        runner.expect(answer_of(lambda: reference.read_certificate(data)[2]), "check", "cert")
+
+
+def try_verify(runner, draw):
+    market = drawn_market(draw)
+    n = reference.read_port(market).n
+    status, lines = solve(runner, market, drawn_job(draw, n))
+    if status != 0:
+        raise Broken(f"solve answered {status}, {lines}")
+    for _ in range(4):
+        port = damaged(draw, market) if draw.random() < 0.5 else market
+        job = drawn_job(draw, n) if draw.random() < 0.3 else odd_job(draw, runner.get("job"))
+        runner.put("other", port)
+        runner.put("task", job)
+
+        def read():
+            held = reference.read_port(port)
+            asked = reference.read_job(job, held.n)
+            head, weights, verdict = reference.read_certificate(runner.get("cert"))
+            reference.compare(head, weights, held, asked)
+            return verdict
+
+        runner.expect(answer_of(read), "verify", "other", "task", "cert")
+
+
+def try_words(runner, draw):
+    words = draw.choice((
+        ["quick", "port", "2", "10", "1", "1", "0"], ["solve", "port", "job", "cert"], ["check", "cert"],
+        ["verify", "port", "job", "cert"], ["demo", "7", "5", "2", "10", "3"],
+    ))[:]
+    way = draw.randint(0, 2)
+    if way == 0:
+        words.append(draw.choice(("", "0", "port", "x")))
+    elif way == 1:
+        words[0] = draw.choice(("", "Quick", "solver", "chec", "--help", "help"))
+    else:
+        words[draw.randint(1, len(words) - 1)] = ""
+    runner.expect((2, USAGE + b"\n"), *words)
+
+
+TRIES = {"port": try_port, "job": try_job, "certificate": try_certificate, "verify": try_verify, "words": try_words}
+SHARES = {"port": 30, "job": 20, "certificate": 30, "verify": 15, "words": 5}
+
+
+def keep(folder, runner, name, number, fault):
+    """The input of a broken promise, as a folder of its own."""
+    kept = os.path.join(folder, f"{name}-{number}")
+    os.makedirs(kept, exist_ok=True)
+    for file in os.listdir(runner.folder):
+        with open(os.path.join(kept, file), "wb") as out:
+            out.write(runner.get(file))
+    with open(os.path.join(kept, "FAULT"), "w", encoding="utf-8") as out:
+        out.write(str(fault) + "\n")
+    print(f"{name} {number}: {fault}\n  kept in {kept}", flush=True)
+
+
+def main():
+    parser = argparse.ArgumentParser(description="Holds the built program to the formats, over damaged inputs drawn from a seed.")
+    parser.add_argument("--program", default=PROGRAM)
+    parser.add_argument("--seed", type=int, default=1)
+    parser.add_argument("--count", type=int, default=1000, help="how many inputs")
+    parser.add_argument("--first", type=int, default=0, help="the number of the first input")
+    parser.add_argument("--only", choices=sorted(TRIES), action="append", help="try these alone")
+    parser.add_argument("--keep", default="fuzz-found", help="the folder for inputs of broken promises")
+    words = parser.parse_args()
+    if not os.path.exists(words.program):
+        print(f"fuzz.py: there is no program at {words.program}", file=sys.stderr)
+        return 2
+    names = words.only or list(TRIES)
+    began, broken = time.monotonic(), 0
+    with tempfile.TemporaryDirectory() as folder:
+        runner = Runner(words.program, folder)
+        for number in range(words.first, words.first + words.count):
+            draw = random.Random(f"{words.seed}/{number}")
+            name = draw.choices(names, [SHARES[name] for name in names])[0]
+            try:
+                TRIES[name](runner, draw)
+            except (Broken, subprocess.TimeoutExpired) as fault:
+                broken += 1
+                keep(words.keep, runner, name, number, fault)
+        took = time.monotonic() - began
+        print(f"{words.count} inputs, {runner.runs} runs, {broken} broken promises, seed {words.seed}, {took:.0f} s")
+    return 1 if broken else 0
+
+
+if __name__ == "__main__":
+    sys.exit(main())
