@@ -7,3 +7,6 @@ mod reading;
 
 pub use checker::Checker;
 pub use gap_judge::{CertStop, Verdict};
+
+#[cfg(test)]
+mod tests;

@@ -100,3 +100,55 @@ fn orders_by_key_by_least_and_by_greatest(rt: HostRuntime) -> Result<(), Fail> {
     assert_eq!(rt; turning.order(w, By::Key).is_empty(), false);
     Ok(())
 }
+
+/// Three assets of which the last earns most: 10 lots in one or two, least 2 each, greatest 4, `second` and 6, and 3, 3 and
+/// 0 lots at present.
+#[tactic(auto, using(crate::proofs::LimitLaws::few_numbers))]
+fn tied(alloc: Global, second: u16, turnover: Option<u32>) -> Result<Instance, OutOfMemory>
+    requires least { 1 ≤ second }
+    requires most { second ≤ 10 }
+    requires turnover { IfSome turnover (λ t. t ≤ 3000000) }
+{
+    let job = Job {
+        lots: 10,
+        held: 1,
+        held_most: 2,
+        least: three(2, 2, 2),
+        greatest: three(4, second, 6),
+        present: three(3, 3, 0),
+        turnover,
+        weights: Weights::new(),
+        nodes: 0,
+        workers: 1,
+    };
+    let mut market = Market::new(alloc, 3)?;
+    market.set_mean(2, 5000);
+    Instance::new(alloc, market, &job)
+}
+
+#[test]
+fn ties_of_an_order_go_to_the_lower_asset(rt: HostRuntime) -> Result<(), Fail> {
+    let w = Weight { p: 1, q: 2 };
+    let inst = tied(rt.alloc(), 6, None)?;
+    assert_eq!(rt; assets(&inst.order(w, By::Key)), (2, 0, 1));
+    assert_eq!(rt; assets(&inst.order(w, By::Least)), (0, 1, 2));
+    assert_eq!(rt; assets(&inst.order(w, By::Greatest)), (1, 2, 0));
+    let turning = tied(rt.alloc(), 6, Some(9))?;
+    assert_eq!(rt; assets(&turning.order(w, By::Key)), (0, 1, 2));
+    // for risk alone the means don't count
+    let risk = Weight { p: 1, q: 1 };
+    assert_eq!(rt; assets(&inst.order(risk, By::Key)), (0, 1, 2));
+    Ok(())
+}
+
+#[test]
+fn an_order_leaves_out_what_cannot_be_held(rt: HostRuntime) -> Result<(), Fail> {
+    let w = Weight { p: 1, q: 2 };
+    let inst = tied(rt.alloc(), 1, None)?;
+    assert_eq!(rt; assets(&inst.order(w, By::Key)), (2, 0, 9));
+    assert_eq!(rt; assets(&inst.order(w, By::Least)), (0, 2, 9));
+    assert_eq!(rt; assets(&inst.order(w, By::Greatest)), (2, 0, 9));
+    let turning = tied(rt.alloc(), 1, Some(9))?;
+    assert_eq!(rt; assets(&turning.order(w, By::Key)), (0, 2, 9));
+    Ok(())
+}

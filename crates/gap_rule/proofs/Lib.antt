@@ -3,3 +3,6 @@ pub mod RuleLaws
 pub mod WorkLaws
 pub mod PortLaws
 pub mod JobLaws
+pub mod CertLaws
+pub mod ClaimLaws
+pub mod DemoLaws

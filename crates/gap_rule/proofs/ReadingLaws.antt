@@ -2,9 +2,9 @@
 use Rattle.std.proofs.Common.{◌≡◌, ℕ, ◌+◌, ◌≤◌, List, ◌++◌, length, take, drop, refl, sym, ap, ◌∙◌, subst, arith, Result, Ok, Err}
 use Rattle.std.proofs.Math.Seq.{take-add}
 use Rattle.std.proofs.lemmas.List.{length-take, length-take-le, length-drop, length-append, take-append-drop, take_all}
-use Rattle.std.specs.Result.{IfErr}
+use Rattle.std.specs.Result.{IfErr, IfOk}
 use Rattle.gap_files.specs.Outside.{FilesNow, ReadsAt, Rose}
-use Rattle.gap_rule.specs.Reading.{IsFed, WasFed, OnlyReads, StopCause, Says}
+use Rattle.gap_rule.specs.Reading.{IsFed, WasFed, WasSaid, OnlyReads, StopCause, Says}
 use Rattle.gap_rule.specs.declared.consumer.ReadStop.{ReadStop}
 use Rattle.gap_rule.specs.declared.consumer.ReadStop.TheVariants.{ReadFault, Refused, OutOfMemory}
 
@@ -76,6 +76,11 @@ pub says_stop : {T F : Type 0} (said : Result T F → Type 0) (stop : ReadStop F
 says_stop said ReadFault h = tt
 says_stop said (Refused fault) h = h fault refl
 says_stop said OutOfMemory h = tt
+
+-- what was made of bytes that were taken in was made of some bytes
+pub was_said : {T F : Type 0} (at : ℕ) (has_read : List ℕ → Type 0) (said : List ℕ → Result T F → Type 0) (r : Result T (ReadStop F)) → WasFed at has_read → ((fed : List ℕ) → has_read fed → Says (said fed) r) → IfOk r (WasSaid said)
+was_said at has_read said (Ok made) was told = record { bytes = was.fed; told = told was.fed was.taken }
+was_said at has_read said (Err stop) was told = tt
 
 fell_on : (a b c : ℕ) → a ≤ b → b ≤ c → a ≤ c
 fell_on a b c h k = omega arith

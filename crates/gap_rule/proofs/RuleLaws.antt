@@ -1,15 +1,15 @@
 -- Rulings, by what was read.
-use Rattle.std.proofs.Common.{◌≡◌, ℕ, ◌≤◌, inl, inr, Bool, true, false, if◌then◌else◌, List, [], ◌∷◌, Result, Ok, Err, refl, sym, ◌∙◌, subst, arith}
-use Rattle.std.specs.Result.{IfErr}
+use Rattle.std.proofs.Common.{◌≡◌, ℕ, ◌≤◌, inl, inr, List, [], ◌∷◌, Result, Ok, Err, refl, sym, ◌∙◌, subst, arith}
+use Rattle.std.specs.Result.{IfErr, IfOk}
 use Rattle.gap_files.specs.Outside.{FilesNow, NoneFell, Rose, SameEverywhere, bytes_of}
-use Rattle.gap_words.specs.Forms.{faulty, quick, solve, check, verify, demo}
+use Rattle.gap_words.specs.Forms.{faulty, demo}
 use Rattle.gap_words.specs.declared.form.DemoWords.{DemoWords}
 use Rattle.gap_words.specs.declared.refusal.Refusal.{Refusal}
-use Rattle.gap_words.specs.declared.refusal.Refusal.TheVariants.{Words, NotBuilt}
+use Rattle.gap_words.specs.declared.refusal.Refusal.TheVariants.{Words}
 use Rattle.gap_rule.specs.Names.{AreHeld, RoseAt, RoseIn}
 use Rattle.gap_rule.specs.Reading.{IfTold, OnlyReads, StopCause, Says}
-use Rattle.gap_rule.specs.Rules.{After, behind, refused_as, market_ruling, job_ruling, RulesJob, quick_ruling}
-use Rattle.gap_rule.specs.Steps.{IsLike, IsRuling, TellsRuling, HaltCause, IsLooked, IsRuled, IsRuledForm}
+use Rattle.gap_rule.specs.Rules.{After, GoesOn, behind, refused_as, RulesDemo}
+use Rattle.gap_rule.specs.Steps.{IsLike, IsRuling, TellsRuling, HaltCause, IsLooked, IsRuled, IsRuledForm, MayHalt, IsDemo, FitsForm}
 use Rattle.gap_rule.specs.declared.consumer.ReadStop.{ReadStop}
 use Rattle.gap_rule.specs.declared.consumer.ReadStop.TheVariants.{ReadFault as Unread, Refused as AtFault, OutOfMemory as NoMemory}
 use Rattle.gap_rule.specs.declared.stop.Halt.{Halt}
@@ -161,6 +161,62 @@ looked_pure {A = A} name value ruling f g a r first tells calm = record {
   writes = first.frame.writes;
 }
 
+-- a ruling that goes on with a value that a first one found, and one that it refused
+goes_on : {A B : Type 0} (first : Result A Refusal → Type 0) (next : A → Result B Refusal → Type 0) (a : A) (r : Result B Refusal) → IsRuling first (Ok a) → IsRuling (next a) r → IsRuling (GoesOn first next) r
+goes_on {A = A} {B = B} first next a r found ruled = record {
+  holds = record { found = Ok a; holds = found.holds; after = ruled.holds };
+  only = λ other goes. by other goes.found (found.only goes.found goes.holds) goes.after;
+}
+  where
+    by : (other : Result B Refusal) (z : Result A Refusal) → IsLike (Ok a) z → After z next other → IsLike r other
+    by other (Ok b) same after = ruled.only other (subst (λ (x : A). next x other) (sym same) after)
+    by other (Err why) same after = absurd same
+
+goes_off : {A B : Type 0} (first : Result A Refusal → Type 0) (next : A → Result B Refusal → Type 0) (why : Refusal) → IsRuling first (Err why) → IsRuling (GoesOn first next) (Err why)
+goes_off {A = A} {B = B} first next why found = record {
+  holds = record { found = Err why; holds = found.holds; after = refl };
+  only = λ other goes. by other goes.found (found.only goes.found goes.holds) goes.after;
+}
+  where
+    by : (other : Result B Refusal) (z : Result A Refusal) → IsLike (Err why) z → After z next other → IsLike (refused_value B why) other
+    by other (Ok b) same after = absurd same
+    by other (Err unlike) same after = subst (λ (r : Result B Refusal). IsLike (refused_value B why) r) (sym after) same
+
+goes_told : {A B : Type 0} (first : Result A Refusal → Type 0) (next : A → Result B Refusal → Type 0) (a : A) (r : Result B Halt) → IsRuling first (Ok a) → TellsRuling (next a) r → TellsRuling (GoesOn first next) r
+goes_told first next a (Ok value) found told = goes_on first next a (Ok value) found told
+goes_told first next a (Err (Refused why)) found told = goes_on first next a (Err why) found told
+goes_told first next a (Err ReadFault) found told = tt
+goes_told first next a (Err OutOfMemory) found told = tt
+
+goes_halted : {A B : Type 0} (first : Result A Refusal → Type 0) (next : A → Result B Refusal → Type 0) (halt : Halt) → TellsRuling {T = A} first (Err halt) → TellsRuling {T = B} (GoesOn first next) (Err halt)
+goes_halted first next (Refused why) told = goes_off first next why told
+goes_halted first next ReadFault told = tt
+goes_halted first next OutOfMemory told = tt
+
+-- a file was read whose ruling isn't one value, and what it says was ruled
+pub looked_goes : {A B : Type 0} (name : List ℕ) (first : List ℕ → Result A Refusal → Type 0) (next : A → Result B Refusal → Type 0) (f g : FilesNow) (a : A) (r : Result B Halt) → IsLooked name first f g (Ok a) → TellsRuling (next a) r → HaltCause ⊥ r → IsRuled (name ∷ []) (λ holds. name ∷ []) (λ holds. GoesOn (first (holds name)) next) f g r
+looked_goes name first next f g a r looked tells calm = record {
+  tells = λ holds held. goes_told (first (holds name)) next a r (told_first name [] first f g (Ok a) holds looked held) tells;
+  cause = cause_calm _ r calm;
+  looks_cause = λ holds held. cause_calm _ r calm;
+  contents = looked.frame.contents;
+  others = λ other none. looked.frame.others other none.0;
+  later = looked.frame.later;
+  writes = looked.frame.writes;
+}
+
+-- the reading of such a file stopped
+pub looked_halts : {A B : Type 0} (name : List ℕ) (first : List ℕ → Result A Refusal → Type 0) (next : A → Result B Refusal → Type 0) (f g : FilesNow) (halt : Halt) → IsLooked {T = A} name first f g (Err halt) → IsRuled {T = B} (name ∷ []) (λ holds. name ∷ []) (λ holds. GoesOn (first (holds name)) next) f g (Err halt)
+looked_halts {A = A} {B = B} name first next f g halt looked = record {
+  tells = λ holds held. goes_halted (first (holds name)) next halt (told_first name [] first f g (Err halt) holds looked held);
+  cause = halt_cause_of A B _ _ halt inl looked.cause;
+  looks_cause = λ holds held. halt_cause_of A B _ _ halt inl looked.cause;
+  contents = looked.frame.contents;
+  others = λ other none. looked.frame.others other none.0;
+  later = looked.frame.later;
+  writes = looked.frame.writes;
+}
+
 -- nothing was read
 pub ruled_unread : {T : Type 0} (names : List (List ℕ)) (looks : (List ℕ → List ℕ) → List (List ℕ)) (ruling : (List ℕ → List ℕ) → Result T Refusal → Type 0) (f : FilesNow) (why : Refusal) → ((holds : List ℕ → List ℕ) → IsRuling (ruling holds) (Err why)) → IsRuled names looks ruling f f (Err (Refused why))
 ruled_unread names looks ruling f why ruled = record {
@@ -181,11 +237,20 @@ looked_end name value ruling f g halt first = looked_stop name [] value (λ hold
 pub ruled_words : (f : FilesNow) → IsRuledForm faulty f f (Err (Refused Words))
 ruled_words f = ruled_unread [] (λ holds. []) (λ holds z. z ≡ Err Words) f Words (λ holds. is_value (Err Words) (Err Words) refl)
 
-pub ruled_check : (cert : List ℕ) (f : FilesNow) → IsRuledForm (check cert) f f (Err (Refused NotBuilt))
-ruled_check cert f = ruled_unread (cert ∷ []) (λ holds. []) (λ holds z. z ≡ Err NotBuilt) f NotBuilt (λ holds. is_value (Err NotBuilt) (Err NotBuilt) refl)
+-- words that no file is read for, and that aren't refused
+pub fits_demo : (asked : DemoWords) (r : Result Task Halt) → MayHalt (λ why. ⊥) r → IfOk r IsDemo → FitsForm (demo asked) r
+fits_demo asked (Ok task) may ready = ready
+fits_demo asked (Err (Refused why)) may ready = absurd may
+fits_demo asked (Err ReadFault) may ready = tt
+fits_demo asked (Err OutOfMemory) may ready = tt
 
-pub ruled_verify : (port job cert : List ℕ) (f : FilesNow) → IsRuledForm (verify port job cert) f f (Err (Refused NotBuilt))
-ruled_verify port job cert f = ruled_unread (port ∷ job ∷ cert ∷ []) (λ holds. []) (λ holds z. z ≡ Err NotBuilt) f NotBuilt (λ holds. is_value (Err NotBuilt) (Err NotBuilt) refl)
-
-pub ruled_demo : (asked : DemoWords) (f : FilesNow) → IsRuledForm (demo asked) f f (Err (Refused NotBuilt))
-ruled_demo asked f = ruled_unread [] (λ holds. []) (λ holds z. z ≡ Err NotBuilt) f NotBuilt (λ holds. is_value (Err NotBuilt) (Err NotBuilt) refl)
+pub ruled_demo : (asked : DemoWords) (f : FilesNow) (r : Result Task Halt) → TellsRuling (RulesDemo asked) r → HaltCause ⊥ r → IsRuledForm (demo asked) f f r
+ruled_demo asked f r tells calm = record {
+  tells = λ holds held. tells;
+  cause = calm;
+  looks_cause = λ holds held. calm;
+  contents = λ name. refl;
+  others = λ other none. refl;
+  later = λ name. omega arith;
+  writes = λ name. refl;
+}

@@ -1,5 +1,6 @@
 pub mod Names
 pub mod Reading
+pub mod Certificates
 pub mod Tasks
 pub mod Rules
 pub mod Steps

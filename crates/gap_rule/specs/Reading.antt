@@ -44,6 +44,11 @@ Says said (Err ReadFault) = Unit {0}
 Says said (Err (Refused fault)) = said (Err fault)
 Says said (Err OutOfMemory) = Unit {0}
 
+-- what was made was made of some bytes
+pub record WasSaid {T F : Type 0} (said : List ℕ → Result T F → Type 0) (made : T) : Type 0 where
+  pub bytes : List ℕ
+  pub told : said bytes (Ok made)
+
 -- a job file that is kept whole: its bytes, where they are at most so many
 abbrev pub IsWithin : ℕ → List ℕ → Result JobFile TooLong → Type 0
 IsWithin most bytes (Ok file) = file.bytes.items ≡ bytes

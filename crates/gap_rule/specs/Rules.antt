@@ -1,17 +1,21 @@
 -- One ruling: from the form of the words and the contents of the files, either one refusal or what is to be done. Own to
 -- portgap.
-use Rattle.std.specs.Prelude.{◌≡◌, ℕ, nat_lt, List, [], ◌∷◌, Result, Ok, Err, if◌then◌else◌}
+use Rattle.std.specs.Prelude.{◌≡◌, ℕ, nat_lt, List, [], ◌∷◌, Some, Result, Ok, Err, if◌then◌else◌}
 use Rattle.gap_base.specs.declared.job.Job.{Job}
-use Rattle.gap_base.specs.Markets.{MarketValue}
+use Rattle.gap_base.specs.Markets.{MarketValue, IsMarket}
+use Rattle.gap_gen.specs.Demo.{IsGenerated}
 use Rattle.gap_job.specs.Jobs.{job_in}
 use Rattle.gap_orlib.specs.Ports.{port}
+use Rattle.gap_valid.specs.Verdicts.{VerdictValue}
 use Rattle.gap_words.specs.Forms.{FormValue, faulty, quick, solve, check, verify, demo}
+use Rattle.gap_words.specs.declared.form.DemoWords.{DemoWords}
 use Rattle.gap_words.specs.declared.form.QuickWords.{QuickWords}
 use Rattle.gap_words.specs.declared.refusal.Refusal.{Refusal}
-use Rattle.gap_words.specs.declared.refusal.Refusal.TheVariants.{Words, NotBuilt, Port, Job as BadJob, HeldRange}
+use Rattle.gap_words.specs.declared.refusal.Refusal.TheVariants.{Words, Port, Job as BadJob, HeldRange, Differs}
 use Rattle.gap_rule.specs.declared.task.Task.{Task}
-use Rattle.gap_rule.specs.declared.task.Task.TheVariants.{Quick, Solve}
-use Rattle.gap_rule.specs.Tasks.{quick_job, work_of}
+use Rattle.gap_rule.specs.declared.task.Task.TheVariants.{Quick, Solve, Demo, Check, Verify}
+use Rattle.gap_rule.specs.Certificates.{RulesCertificate, IsOfFiles, difference_from}
+use Rattle.gap_rule.specs.Tasks.{quick_job, demo_job, work_of}
 
 -- what follows where nothing was refused
 infixl 10 ◌>>=◌
@@ -45,15 +49,43 @@ After (Err why) next r = r ≡ Err why
 abbrev pub RulesJob : MarketValue → List ℕ → Result Task Refusal → Type 0
 RulesJob market bytes = After (job_ruling market.assets bytes) (λ job r. r ≡ Ok (Solve (work_of market job)))
 
+-- a ruling that goes on with what a first one found that holds of more than one value, where that refused nothing
+pub record GoesOn {A B : Type 0} (first : Result A Refusal → Type 0) (next : A → Result B Refusal → Type 0) (r : Result B Refusal) : Type 0 where
+  pub found : Result A Refusal
+  pub holds : first found
+  pub after : After found next r
+
+-- the ruling of `verify` over its market, its job and the verdict of its certificate: the certificate is of the two, or the
+-- first difference
+abbrev pub RulesClaim : MarketValue → Job → VerdictValue → Result Task Refusal → Type 0
+RulesClaim market job v (Ok (Verify w)) = (w ≡ v) × IsOfFiles market job v
+RulesClaim market job v (Err (Differs difference)) = difference_from market job v ≡ Some difference
+RulesClaim market job v _ = ⊥
+
+-- the ruling of `verify` over its market and its job, by the bytes of its certificate; and over its market, by those of its
+-- job file and its certificate
+abbrev pub RulesPair : MarketValue → Job → List ℕ → Result Task Refusal → Type 0
+RulesPair market job bytes = GoesOn (RulesCertificate bytes) (RulesClaim market job)
+
+abbrev pub RulesClaimed : MarketValue → List ℕ → List ℕ → Result Task Refusal → Type 0
+RulesClaimed market bytes cert = After (job_ruling market.assets bytes) (λ job. RulesPair market job cert)
+
+-- the ruling of `demo`: its weights are answered for a market that its number generates
+pub record RulesDemo (asked : DemoWords) (r : Result Task Refusal) : Type 0 where
+  pub market : MarketValue
+  pub market_is : IsMarket market
+  pub generated : IsGenerated asked.number asked.n market
+  pub ruled : r ≡ Ok (Demo (work_of market (demo_job asked)))
+
 -- what words ask for, over the bytes that files hold under each name: the first refusal in the order of words, port file,
 -- job file, certificate and difference, or what is to be done
 abbrev pub Rules : FormValue → (List ℕ → List ℕ) → Result Task Refusal → Type 0
 Rules faulty holds = λ r. r ≡ Err Words
 Rules (quick port asked) holds = After (market_ruling (holds port)) (λ market r. r ≡ quick_ruling asked market)
 Rules (solve port job cert) holds = After (market_ruling (holds port)) (λ market. RulesJob market (holds job))
-Rules (check cert) holds = λ r. r ≡ Err NotBuilt
-Rules (verify port job cert) holds = λ r. r ≡ Err NotBuilt
-Rules (demo asked) holds = λ r. r ≡ Err NotBuilt
+Rules (check cert) holds = GoesOn (RulesCertificate (holds cert)) (λ v r. r ≡ Ok (Check v))
+Rules (verify port job cert) holds = After (market_ruling (holds port)) (λ market. RulesClaimed market (holds job) (holds cert))
+Rules (demo asked) holds = RulesDemo asked
 
 -- the names behind a ruling, which are looked at only where it refused nothing
 abbrev pub behind : {A : Type 0} → Result A Refusal → (A → List (List ℕ)) → List (List ℕ)
@@ -65,6 +97,7 @@ abbrev pub looks : FormValue → (List ℕ → List ℕ) → List (List ℕ)
 looks faulty holds = []
 looks (quick port asked) holds = port ∷ []
 looks (solve port job cert) holds = port ∷ behind (market_ruling (holds port)) (λ market. job ∷ [])
-looks (check cert) holds = []
-looks (verify port job cert) holds = []
+looks (check cert) holds = cert ∷ []
+looks (verify port job cert) holds =
+    port ∷ behind (market_ruling (holds port)) (λ market. job ∷ behind (job_ruling market.assets (holds job)) (λ asked. cert ∷ []))
 looks (demo asked) holds = []

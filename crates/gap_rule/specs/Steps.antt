@@ -5,7 +5,7 @@ use Rattle.gap_words.specs.Forms.{FormValue, faulty, quick, solve, check, verify
 use Rattle.gap_words.specs.Names.{reads}
 use Rattle.gap_words.specs.Refusals.{refusal_status}
 use Rattle.gap_words.specs.declared.refusal.Refusal.{Refusal}
-use Rattle.gap_words.specs.declared.refusal.Refusal.TheVariants.{Words, NotBuilt, Port, Job, HeldRange}
+use Rattle.gap_words.specs.declared.refusal.Refusal.TheVariants.{Words, Port, Job, HeldRange, Certificate, Differs}
 use Rattle.gap_rule.specs.Names.{AreHeld, RoseAt, RoseIn, SameOutside}
 use Rattle.gap_rule.specs.Reading.{IfTold, OnlyReads}
 use Rattle.gap_rule.specs.Rules.{Rules, looks}
@@ -17,7 +17,8 @@ use Rattle.gap_base.specs.declared.weight.Weight.{Weight}
 use Rattle.gap_head.specs.Said.{IsSaid}
 use Rattle.gap_instance.specs.Instances.{IsInstance}
 use Rattle.gap_valid.specs.Valid.{IsWeight}
-use Rattle.gap_rule.specs.declared.task.Task.TheVariants.{Quick, Solve}
+use Rattle.gap_rule.specs.Certificates.{WasAccepted}
+use Rattle.gap_rule.specs.declared.task.Task.TheVariants.{Quick, Solve, Demo, Check, Verify}
 
 -- two rulings come to the same: to the same task, or to refusals with the same status
 abbrev pub IsLike : {T : Type 0} → Result T Refusal → Result T Refusal → Type 0
@@ -72,7 +73,8 @@ MayHalt may (Err (Refused why)) = may why
 MayHalt may (Err ReadFault) = Unit {0}
 MayHalt may (Err OutOfMemory) = Unit {0}
 
--- a refusal is that of a port file, of a job file, of the words of `quick` over a market
+-- a refusal is that of a port file, of a job file, of a certificate, of the words of `quick` over a market, of a
+-- certificate that isn't of a market and a job
 abbrev pub IsOfPort : Refusal → Type 0
 IsOfPort (Port fault) = Unit {0}
 IsOfPort _ = ⊥
@@ -81,9 +83,29 @@ abbrev pub IsOfJob : Refusal → Type 0
 IsOfJob (Job fault) = Unit {0}
 IsOfJob _ = ⊥
 
+abbrev pub IsOfCertificate : Refusal → Type 0
+IsOfCertificate (Certificate fault) = Unit {0}
+IsOfCertificate _ = ⊥
+
 abbrev pub IsOfQuick : Refusal → Type 0
 IsOfQuick HeldRange = Unit {0}
 IsOfQuick _ = ⊥
+
+abbrev pub IsOfClaim : Refusal → Type 0
+IsOfClaim (Differs difference) = Unit {0}
+IsOfClaim _ = ⊥
+
+-- the refusals of a certificate and of what it is of, and those of a job file too
+abbrev pub IsOfPair : Refusal → Type 0
+IsOfPair (Certificate fault) = Unit {0}
+IsOfPair (Differs difference) = Unit {0}
+IsOfPair _ = ⊥
+
+abbrev pub IsOfFile : Refusal → Type 0
+IsOfFile (Job fault) = Unit {0}
+IsOfFile (Certificate fault) = Unit {0}
+IsOfFile (Differs difference) = Unit {0}
+IsOfFile _ = ⊥
 
 -- the refusals that a form may have, whatever its files hold
 abbrev pub MayRefuse : FormValue → Refusal → Type 0
@@ -92,9 +114,11 @@ MayRefuse (quick port asked) (Port fault) = Unit {0}
 MayRefuse (quick port asked) HeldRange = Unit {0}
 MayRefuse (solve port job cert) (Port fault) = Unit {0}
 MayRefuse (solve port job cert) (Job fault) = Unit {0}
-MayRefuse (check cert) NotBuilt = Unit {0}
-MayRefuse (verify port job cert) NotBuilt = Unit {0}
-MayRefuse (demo asked) NotBuilt = Unit {0}
+MayRefuse (check cert) (Certificate fault) = Unit {0}
+MayRefuse (verify port job cert) (Port fault) = Unit {0}
+MayRefuse (verify port job cert) (Job fault) = Unit {0}
+MayRefuse (verify port job cert) (Certificate fault) = Unit {0}
+MayRefuse (verify port job cert) (Differs difference) = Unit {0}
 MayRefuse _ _ = ⊥
 
 -- what is to be done can be: its instance is one, as a certificate's head says it, there are 1 to 101 weights in their ranges,
@@ -109,25 +133,43 @@ pub record IsReady (work : Work) : Type 0 where
   pub least_workers : 1 ≤ work.workers
   pub most_workers : work.workers ≤ 16
 
--- the work of a task
-abbrev pub work_in : Task → Work
-work_in (Quick work) = work
-work_in (Solve work) = work
+-- a task can be done: work is ready, and what is to be told was accepted
+abbrev pub CanBeDone : Task → Type 0
+CanBeDone (Quick work) = IsReady work
+CanBeDone (Solve work) = IsReady work
+CanBeDone (Demo work) = IsReady work
+CanBeDone (Check v) = WasAccepted v
+CanBeDone (Verify v) = WasAccepted v
 
--- a task of `quick`, and one of `solve`, that can be done
+-- a task of `quick`, of `solve`, of `demo`, of `check`, of `verify` that can be done
 abbrev pub IsQuick : Task → Type 0
 IsQuick (Quick work) = IsReady work
-IsQuick (Solve work) = ⊥
+IsQuick _ = ⊥
 
 abbrev pub IsSolve : Task → Type 0
-IsSolve (Quick work) = ⊥
 IsSolve (Solve work) = IsReady work
+IsSolve _ = ⊥
+
+abbrev pub IsDemo : Task → Type 0
+IsDemo (Demo work) = IsReady work
+IsDemo _ = ⊥
+
+abbrev pub IsCheck : Task → Type 0
+IsCheck (Check v) = WasAccepted v
+IsCheck _ = ⊥
+
+abbrev pub IsVerify : Task → Type 0
+IsVerify (Verify v) = WasAccepted v
+IsVerify _ = ⊥
 
 -- the tasks that a form may have
 abbrev pub MayDo : FormValue → Task → Type 0
-MayDo (quick port asked) (Quick work) = IsReady work
-MayDo (solve port job cert) (Solve work) = IsReady work
-MayDo _ _ = ⊥
+MayDo faulty = λ task. ⊥
+MayDo (quick port asked) = IsQuick
+MayDo (solve port job cert) = IsSolve
+MayDo (check cert) = IsCheck
+MayDo (verify port job cert) = IsVerify
+MayDo (demo asked) = IsDemo
 
 -- what a ruling's answer says of the form, whatever its files hold
 abbrev pub FitsForm : FormValue → Result Task Halt → Type 0

@@ -1,7 +1,7 @@
 //! Reading a file through the outside, in pieces, up to its first fault.
 ghost use Rattle.std.specs.Prelude.{◌≡◌, ℕ, ◌+◌, ◌-◌, ◌<◌, ◌≤◌, ◌++◌, min, List, [], length, IsOk, IfOk, IfErr, Ok, Err};
 ghost use Rattle.gap_rule.specs.Names.{RoseAt};
-ghost use Rattle.gap_rule.specs.Reading.{IfTold, OnlyReads, IsFed, WasFed, StopCause, Says};
+ghost use Rattle.gap_rule.specs.Reading.{IfTold, OnlyReads, IsFed, WasFed, WasSaid, StopCause, Says};
 
 use crate::consumer::{Consumer, ReadStop};
 use gap_files::{Files, Trouble};
@@ -67,6 +67,7 @@ fn read_all<F: Files, C: Consumer>(
     requires small { C.MOST ≤ 1099511627776 }
     requires fresh { C.has_read consumer [] }
     ensures told { IfTold (F.files files.old) name.now (λ held. Says (C.said held) result) }
+    ensures was { IfOk result (WasSaid C.said) }
     ensures cause { IfErr result (StopCause (RoseAt name.now (F.files files.old) (F.files files.new))) }
     ensures frame { OnlyReads name.now (F.files files.old) (F.files files.new) }
 {
@@ -105,6 +106,7 @@ pub(crate) fn read_file<F: Files, C: Consumer>(
     requires small { C.MOST ≤ 1099511627776 }
     requires fresh { C.has_read consumer [] }
     ensures told { IfTold (F.files files.old) name.now (λ held. Says (C.said held) result) }
+    ensures was { IfOk result (WasSaid C.said) }
     ensures cause { IfErr result (StopCause (RoseAt name.now (F.files files.old) (F.files files.new))) }
     ensures frame { OnlyReads name.now (F.files files.old) (F.files files.new) }
 {

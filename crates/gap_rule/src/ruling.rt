@@ -1,20 +1,26 @@
 //! The ruling: what the words and the files ask for, or why it is refused.
 ghost use Rattle.std.specs.Prelude.{◌≡◌, ◌≤◌, ℕ, List, [], ◌∷◌, IfOk, Ok, Err};
 ghost use Rattle.gap_job.specs.Ranges.{IsJob};
-ghost use Rattle.gap_words.specs.Forms.{AreInRange, IsFormInRange, form_value, quick, solve};
-ghost use Rattle.gap_rule.specs.Tasks.{quick_job, work_of};
-ghost use Rattle.gap_rule.specs.Rules.{RulesJob, quick_ruling};
-ghost use Rattle.gap_rule.specs.Steps.{TellsRuling, IsRuled, IsRuledForm, FitsForm, HaltCause, MayHalt, IsOfQuick, IsOfJob, IsReady, IsQuick, IsSolve};
+ghost use Rattle.gap_words.specs.Forms.{AreInRange, IsDemoInRange, IsFormInRange, form_value, quick, solve, check, verify};
+ghost use Rattle.gap_rule.specs.Tasks.{quick_job, quarters, demo_job, work_of};
+ghost use Rattle.gap_rule.specs.Certificates.{WasAccepted};
+ghost use Rattle.gap_rule.specs.Rules.{RulesJob, RulesClaim, RulesPair, RulesClaimed, RulesDemo, job_ruling, behind, quick_ruling};
+ghost use Rattle.gap_rule.specs.Steps.{TellsRuling, IsRuled, IsRuledForm, FitsForm, HaltCause, MayHalt, IsOfQuick, IsOfJob, IsOfClaim, IsOfPair, IsOfFile};
+ghost use Rattle.gap_rule.specs.Steps.{IsReady, IsQuick, IsSolve, IsDemo, IsVerify};
 
+use crate::cert::read_certificate;
 use crate::job::read_job_for;
 use crate::port::read_market;
 use crate::stop::Halt;
 use crate::task::{Task, Work};
-use gap_base::{Job, Lots, Market, OutOfMemory, Weights};
+use gap_base::{Job, Lots, Market, OutOfMemory, Weight, Weights};
+use gap_check::Verdict;
 use gap_files::Files;
+use gap_gen::demo_market;
 use gap_head::said_anew;
 use gap_instance::Instance;
-use gap_words::{Form, QuickWords, Refusal};
+use gap_verify::first_difference;
+use gap_words::{DemoWords, Form, QuickWords, Refusal};
 use std::alloc::Global;
 
 /// The job that the words of `quick` name for a market of `n` assets.
@@ -136,6 +142,140 @@ fn rule_solve<F: Files>(alloc: Global, port: &str, job: &str, files: &mut F) -> 
     rule_job(alloc, market, job, files)
 }
 
+/// The weights of `demo`.
+fn quarters() -> Weights
+    ensures { result ≡ quarters }
+{
+    let mut weights = Weights::new();
+    weights.push(Weight { p: 0, q: 4 });
+    weights.push(Weight { p: 1, q: 4 });
+    weights.push(Weight { p: 2, q: 4 });
+    weights.push(Weight { p: 3, q: 4 });
+    weights.push(Weight { p: 4, q: 4 });
+    weights
+}
+
+/// The job that the words of `demo` name.
+fn demo_job(asked: DemoWords) -> Job
+    requires { IsDemoInRange asked }
+    ensures { result ≡ demo_job asked }
+{
+    Job {
+        lots: asked.lots,
+        held: asked.held,
+        held_most: asked.held,
+        least: Lots::filled(asked.n, 1),
+        greatest: Lots::filled(asked.n, asked.lots),
+        present: Lots::zeros(asked.n),
+        turnover: Option::None,
+        weights: quarters(),
+        nodes: asked.nodes,
+        workers: 1,
+    }
+}
+
+/// The ruling of `demo`. It reads nothing.
+fn rule_demo(alloc: Global, asked: DemoWords) -> Result<Task, Halt>
+    requires { IsDemoInRange asked }
+    ensures tells { TellsRuling (RulesDemo asked) result }
+    ensures halts { MayHalt (λ why. ⊥) result }
+    ensures calm { HaltCause ⊥ result }
+    ensures ready { IfOk result IsDemo }
+{
+    let market = demo_market(alloc, asked.number, asked.n)?;
+    // what holds of every market
+    let _assets = market.n();
+    let work = work_of(alloc, market, demo_job(asked))?;
+    Ok(Task::Demo(work))
+}
+
+/// The ruling of `check`.
+fn rule_check<F: Files>(alloc: Global, cert: &str, files: &mut F) -> Result<Task, Halt>
+    ensures ruled { IsRuledForm (check cert.now) (F.files files.old) (F.files files.new) result }
+    ensures fits { FitsForm (check cert.now) result }
+{
+    match read_certificate(alloc, files, cert) {
+        Ok(verdict) => Ok(Task::Check(verdict)),
+        Err(halt) => Err(halt),
+    }
+}
+
+/// The ruling of `verify` over its market, its job and its verdict.
+fn rule_claim(market: &Market, job: &Job, verdict: Verdict) -> Result<Task, Halt>
+    requires job_is { IsJob market.now.assets job.now }
+    requires accepted { WasAccepted verdict }
+    ensures tells { TellsRuling (RulesClaim market.now job.now verdict) result }
+    ensures halts { MayHalt IsOfClaim result }
+    ensures calm { HaltCause ⊥ result }
+    ensures does { IfOk result IsVerify }
+{
+    // what holds of every market
+    let _assets = market.n();
+    match first_difference(
+        verdict.instance(),
+        verdict.nodes(),
+        verdict.sections(),
+        market,
+        job,
+    ) {
+        None => Ok(Task::Verify(verdict)),
+        Some(difference) => Err(Halt::Refused(Refusal::Differs(difference))),
+    }
+}
+
+/// The ruling of `verify` over its market and its job: its certificate is read.
+fn rule_certificate<F: Files>(
+    alloc: Global,
+    market: &Market,
+    job: &Job,
+    name: &str,
+    files: &mut F,
+) -> Result<Task, Halt>
+    requires job_is { IsJob market.now.assets job.now }
+    ensures ruled { IsRuled (name.now ∷ []) (λ holds. name.now ∷ []) (λ holds. RulesPair market.now job.now (holds name.now))
+        (F.files files.old) (F.files files.new) result }
+    ensures halts { MayHalt IsOfPair result }
+    ensures does { IfOk result IsVerify }
+{
+    match read_certificate(alloc, files, name) {
+        Ok(verdict) => rule_claim(market, job, verdict),
+        Err(halt) => Err(halt),
+    }
+}
+
+/// The ruling of `verify` over its market: its job file and its certificate are read.
+fn rule_claimed<F: Files>(
+    alloc: Global,
+    market: &Market,
+    job: &str,
+    cert: &str,
+    files: &mut F,
+) -> Result<Task, Halt>
+    ensures ruled { IsRuled (job.now ∷ cert.now ∷ [])
+        (λ holds. job.now ∷ behind (job_ruling market.now.assets (holds job.now)) (λ asked. cert.now ∷ []))
+        (λ holds. RulesClaimed market.now (holds job.now) (holds cert.now)) (F.files files.old) (F.files files.new) result }
+    ensures halts { MayHalt IsOfFile result }
+    ensures does { IfOk result IsVerify }
+{
+    let job = read_job_for(alloc, files, job, market.n())?;
+    rule_certificate(alloc, market, &job, cert, files)
+}
+
+/// The ruling of `verify`.
+fn rule_verify<F: Files>(
+    alloc: Global,
+    port: &str,
+    job: &str,
+    cert: &str,
+    files: &mut F,
+) -> Result<Task, Halt>
+    ensures ruled { IsRuledForm (verify port.now job.now cert.now) (F.files files.old) (F.files files.new) result }
+    ensures fits { FitsForm (verify port.now job.now cert.now) result }
+{
+    let market = read_market(alloc, files, port)?;
+    rule_claimed(alloc, &market, job, cert, files)
+}
+
 /// The ruling of a form: what is to be done, or the first refusal in the order of words, port file, job file, certificate
 /// and difference. The files are looked at only as far as it takes.
 pub fn rule<F: Files>(alloc: Global, form: Form<'_>, files: &mut F) -> Result<Task, Halt>
@@ -147,8 +287,8 @@ pub fn rule<F: Files>(alloc: Global, form: Form<'_>, files: &mut F) -> Result<Ta
         Form::Faulty => Err(Halt::Refused(Refusal::Words)),
         Form::Quick(port, asked) => rule_quick(alloc, port, asked, files),
         Form::Solve { port, job, .. } => rule_solve(alloc, port, job, files),
-        Form::Check(_) => Err(Halt::Refused(Refusal::NotBuilt)),
-        Form::Verify { .. } => Err(Halt::Refused(Refusal::NotBuilt)),
-        Form::Demo(_) => Err(Halt::Refused(Refusal::NotBuilt)),
+        Form::Check(cert) => rule_check(alloc, cert, files),
+        Form::Verify { port, job, cert } => rule_verify(alloc, port, job, cert, files),
+        Form::Demo(asked) => rule_demo(alloc, asked),
     }
 }

@@ -1,6 +1,7 @@
 //! What a run is to do.
 
 use gap_base::Weights;
+use gap_check::Verdict;
 use gap_instance::Instance;
 
 /// What a run is to do.
@@ -10,6 +11,12 @@ pub enum Task {
     Quick(Work),
     /// To answer the weights of a job, with the line of the market and those of the frontier.
     Solve(Work),
+    /// To answer the weights of `demo` for a generated market, with the same lines.
+    Demo(Work),
+    /// To tell what a certificate says.
+    Check(Verdict),
+    /// To tell what a certificate of the market and the job says.
+    Verify(Verdict),
 }
 
 /// The weights that are to be answered for an instance, as the head of a certificate says it: how many numerals of its

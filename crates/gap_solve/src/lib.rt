@@ -7,3 +7,6 @@ mod searching;
 mod solving;
 
 pub use solving::solve_one;
+
+#[cfg(test)]
+mod tests;

@@ -5,7 +5,9 @@ ghost use Rattle.gap_box.specs.Parts.{IsWithin, root_cells};
 ghost use Rattle.gap_model.specs.Leaves.{IsPoint, AreMultipliers};
 ghost use Rattle.gap_tangent.specs.Seen.{setting_of};
 
-use crate::tests::drawing::{drawn, instance, point, shift_of, split_once, two_assets};
+use crate::tests::drawing::{
+    drawn, instance, lots_between, point, shift_of, split_once, two_assets,
+};
 use crate::tests::listing::listed;
 use crate::{MeanVariance, Tangent, theta, void_theta};
 use gap_base::{Eighths, OutOfMemory, Weight, Witness};
@@ -129,6 +131,7 @@ fn two_thetas(mv: &MeanVariance<'_>, seed: u32) -> (Option<i128>, Option<i128>)
 #[test]
 fn thetas_by_all_lists(rt: HostRuntime) -> Result<(), Fail> {
     let mut found: u32 = 0;
+    let mut ranges: u32 = 0;
     for seed in 0..24u32 {
         let n = 3 + drawn(seed, 10, 2) as u16;
         let held = 1 + drawn(seed, 11, 2) as u16;
@@ -137,7 +140,8 @@ fn thetas_by_all_lists(rt: HostRuntime) -> Result<(), Fail> {
         } else {
             Some(drawn(seed, 12, 12))
         };
-        let inst = instance(rt.alloc(), seed, n, 7, held, turnover)?;
+        let held_most = lots_between(seed, 14, held, n);
+        let inst = instance(rt.alloc(), seed, n, 7, (held, held_most), turnover)?;
         let shift = shift_of(rt.alloc(), n)?;
         let row = dominant(&inst, &shift);
         assert!(rt; row.is_none());
@@ -146,8 +150,10 @@ fn thetas_by_all_lists(rt: HostRuntime) -> Result<(), Fail> {
         let (here, there) = two_thetas(&mv, seed);
         assert_eq!(rt; here, there);
         found = found.wrapping_add(u32::from(here.is_some()));
+        ranges = ranges.wrapping_add(u32::from(held < held_most && here.is_some()));
     }
     assert!(rt; found > 12);
+    assert!(rt; ranges > 6, "{ranges} hold a range of numbers");
     Ok(())
 }
 

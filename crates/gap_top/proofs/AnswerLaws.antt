@@ -1,27 +1,31 @@
 -- What a run answers, by its ruling and its work.
-use Rattle.std.proofs.Common.{◌≡◌, ◌≢◌, ℕ, ◌≤◌, ◌⊎◌, inl, inr, List, [], ◌∷◌, Option, Some, None, IsSome, Result, Ok, Err, refl, sym, ap, ◌∙◌, subst, arith}
+use Rattle.std.proofs.Common.{◌≡◌, ℕ, ◌≤◌, ◌⊎◌, inl, inr, List, [], ◌∷◌, Option, Some, None, IsSome, Result, Ok, Err, refl, sym, ap, ◌∙◌, subst, arith}
+use Rattle.std.specs.Result.{IfErr}
 use Rattle.gap_files.specs.Outside.{FilesNow, SinkNow, Rose, NoneFell, SameEverywhere, bytes_of}
 use Rattle.gap_words.specs.Forms.{FormValue, faulty, quick, solve, check, verify, demo}
 use Rattle.gap_words.specs.Names.{reads, writes, unnamed}
 use Rattle.gap_words.specs.Refusals.{refusal_line, refusal_status}
 use Rattle.gap_words.specs.declared.refusal.Refusal.{Refusal}
-use Rattle.gap_words.specs.declared.refusal.Refusal.TheVariants.{Words, NotBuilt, Port, Job, HeldRange, Certificate}
+use Rattle.gap_words.specs.declared.refusal.Refusal.TheVariants.{Words, Port, Job, HeldRange, Certificate, Differs}
 use Rattle.gap_rule.specs.Names.{AreTold, AreHeld, RoseIn, SameOutside, held, told_bytes}
 use Rattle.gap_rule.specs.Rules.{Rules}
-use Rattle.gap_rule.specs.Steps.{IsLike, IsRuling, IsRuledForm, MayDo, MayRefuse, FitsForm, IsReady, work_in}
+use Rattle.gap_rule.specs.Steps.{IsLike, IsRuling, IsRuledForm, MayDo, MayRefuse, FitsForm, CanBeDone}
 use Rattle.gap_rule.specs.declared.stop.Halt.{Halt}
 use Rattle.gap_rule.specs.declared.stop.Halt.TheVariants as halt
 use Rattle.gap_rule.specs.declared.task.Task.{Task}
-use Rattle.gap_rule.specs.declared.task.Task.TheVariants.{Quick, Solve}
+use Rattle.gap_rule.specs.declared.task.Task.TheVariants.{Quick, Solve, Demo, Check, Verify}
 use Rattle.gap_top.specs.Answers.{Answers, Comes, FailedIn}
 use Rattle.gap_top.specs.Statuses.{status_number, IsOneOf, IsStatusOf, Allows}
 use Rattle.gap_top.specs.Steps.{Refuses, EndsBy}
-use Rattle.gap_top.specs.Working.{cert_in, asked_by, ended_by, Sweeps, Performs}
+use Rattle.gap_top.specs.Printing.{WriteCause}
+use Rattle.gap_top.specs.Telling.{Tells}
+use Rattle.gap_top.specs.Working.{cert_in, asked_for, ended_by, Sweeps, Does, Performs}
+use Rattle.gap_valid.specs.Verdicts.{VerdictValue}
+use Rattle.gap_sweep.specs.declared.style.Style.TheVariants.{Whole, Single}
 use Rattle.gap_sweep.specs.Asked.{Asked}
-use Rattle.gap_sweep.specs.Runs.{Runs}
 use Rattle.gap_trace.specs.declared.halt.Halt.{Halt as Stopped}
 use Rattle.gap_trace.specs.declared.halt.Halt.TheVariants as trace
-use Rattle.gap_trace.specs.Steps.{HasCause, Keeps}
+use Rattle.gap_trace.specs.Steps.{HasCause}
 use Rattle.gap_top.specs.declared.stop.Stop.{Stop}
 use Rattle.gap_top.specs.declared.stop.Stop.TheVariants.{Refused, ReadFault, WriteFault, OutOfMemory}
 
@@ -30,125 +34,112 @@ may_one : (asked : FormValue) → IsStatusOf asked 1
 may_one faulty = inl refl
 may_one (quick port q) = inr (inl refl)
 may_one (solve port job cert) = inr (inl refl)
-may_one (check cert) = inl refl
-may_one (verify port job cert) = inl refl
-may_one (demo q) = inl refl
+may_one (check cert) = inr (inl refl)
+may_one (verify port job cert) = inr (inl refl)
+may_one (demo q) = inr (inl refl)
 
 may_zero : (asked : FormValue) (task : Task) → MayDo asked task → IsStatusOf asked 0
-may_zero (quick port q) (Quick work) may = inl refl
-may_zero (quick port q) (Solve work) may = absurd may
-may_zero (solve port job cert) (Solve work) may = inl refl
-may_zero (solve port job cert) (Quick work) may = absurd may
-may_zero faulty (Quick work) may = absurd may
-may_zero faulty (Solve work) may = absurd may
-may_zero (check cert) (Quick work) may = absurd may
-may_zero (check cert) (Solve work) may = absurd may
-may_zero (verify port job cert) (Quick work) may = absurd may
-may_zero (verify port job cert) (Solve work) may = absurd may
-may_zero (demo q) (Quick work) may = absurd may
-may_zero (demo q) (Solve work) may = absurd may
+may_zero faulty task may = absurd may
+may_zero (quick port q) task may = inl refl
+may_zero (solve port job cert) task may = inl refl
+may_zero (check cert) task may = inl refl
+may_zero (verify port job cert) task may = inl refl
+may_zero (demo q) task may = inl refl
 
 may_four : (asked : FormValue) (task : Task) → MayDo asked task → IsStatusOf asked 4
-may_four (quick port q) (Quick work) may = inr (inr (inr (inl refl)))
-may_four (quick port q) (Solve work) may = absurd may
-may_four (solve port job cert) (Solve work) may = inr (inr (inr (inl refl)))
-may_four (solve port job cert) (Quick work) may = absurd may
-may_four faulty (Quick work) may = absurd may
-may_four faulty (Solve work) may = absurd may
-may_four (check cert) (Quick work) may = absurd may
-may_four (check cert) (Solve work) may = absurd may
-may_four (verify port job cert) (Quick work) may = absurd may
-may_four (verify port job cert) (Solve work) may = absurd may
-may_four (demo q) (Quick work) may = absurd may
-may_four (demo q) (Solve work) may = absurd may
+may_four faulty task may = absurd may
+may_four (quick port q) task may = inr (inr (inr (inl refl)))
+may_four (solve port job cert) task may = inr (inr (inr (inl refl)))
+may_four (check cert) task may = inr (inr (inr (inl refl)))
+may_four (verify port job cert) task may = inr (inr (inr (inl refl)))
+may_four (demo q) task may = inr (inr (inl refl))
 
--- a form that has a task writes its certificate's file alone
-writes_cert : (asked : FormValue) (task : Task) → MayDo asked task → writes asked ≡ cert_in asked ∷ []
-writes_cert (quick port q) (Quick work) may = refl
-writes_cert (quick port q) (Solve work) may = absurd may
-writes_cert (solve port job cert) (Solve work) may = refl
-writes_cert (solve port job cert) (Quick work) may = absurd may
-writes_cert faulty (Quick work) may = absurd may
-writes_cert faulty (Solve work) may = absurd may
-writes_cert (check cert) (Quick work) may = absurd may
-writes_cert (check cert) (Solve work) may = absurd may
-writes_cert (verify port job cert) (Quick work) may = absurd may
-writes_cert (verify port job cert) (Solve work) may = absurd may
-writes_cert (demo q) (Quick work) may = absurd may
-writes_cert (demo q) (Solve work) may = absurd may
-
--- the work of a task that a form may have can be done
-pub ready_work : (asked : FormValue) (task : Task) → FitsForm asked (Ok task) → IsReady (work_in task)
-ready_work (quick port q) (Quick work) may = may
-ready_work (quick port q) (Solve work) may = absurd may
-ready_work (solve port job cert) (Solve work) may = may
-ready_work (solve port job cert) (Quick work) may = absurd may
-ready_work faulty (Quick work) may = absurd may
-ready_work faulty (Solve work) may = absurd may
-ready_work (check cert) (Quick work) may = absurd may
-ready_work (check cert) (Solve work) may = absurd may
-ready_work (verify port job cert) (Quick work) may = absurd may
-ready_work (verify port job cert) (Solve work) may = absurd may
-ready_work (demo q) (Quick work) may = absurd may
-ready_work (demo q) (Solve work) may = absurd may
+-- a task that a form may have can be done
+pub can_be_done : (asked : FormValue) (task : Task) → FitsForm asked (Ok task) → CanBeDone task
+can_be_done faulty task may = absurd may
+can_be_done (quick port q) (Quick work) may = may
+can_be_done (quick port q) (Solve work) may = absurd may
+can_be_done (quick port q) (Demo work) may = absurd may
+can_be_done (quick port q) (Check v) may = absurd may
+can_be_done (quick port q) (Verify v) may = absurd may
+can_be_done (solve port job cert) (Quick work) may = absurd may
+can_be_done (solve port job cert) (Solve work) may = may
+can_be_done (solve port job cert) (Demo work) may = absurd may
+can_be_done (solve port job cert) (Check v) may = absurd may
+can_be_done (solve port job cert) (Verify v) may = absurd may
+can_be_done (check cert) (Quick work) may = absurd may
+can_be_done (check cert) (Solve work) may = absurd may
+can_be_done (check cert) (Demo work) may = absurd may
+can_be_done (check cert) (Check v) may = may
+can_be_done (check cert) (Verify v) may = absurd may
+can_be_done (verify port job cert) (Quick work) may = absurd may
+can_be_done (verify port job cert) (Solve work) may = absurd may
+can_be_done (verify port job cert) (Demo work) may = absurd may
+can_be_done (verify port job cert) (Check v) may = absurd may
+can_be_done (verify port job cert) (Verify v) may = may
+can_be_done (demo q) (Quick work) may = absurd may
+can_be_done (demo q) (Solve work) may = absurd may
+can_be_done (demo q) (Demo work) may = may
+can_be_done (demo q) (Check v) may = absurd may
+can_be_done (demo q) (Verify v) may = absurd may
 
 may_three : (asked : FormValue) (f g : FilesNow) → RoseIn (reads asked) f g → IsStatusOf asked 3
 may_three faulty f g rose = absurd rose
 may_three (quick port q) f g rose = inr (inr (inl refl))
 may_three (solve port job cert) f g rose = inr (inr (inl refl))
-may_three (check cert) f g rose = inr (inl refl)
-may_three (verify port job cert) f g rose = inr (inl refl)
+may_three (check cert) f g rose = inr (inr (inl refl))
+may_three (verify port job cert) f g rose = inr (inr (inl refl))
 may_three (demo q) f g rose = absurd rose
 
 may_refuse : (asked : FormValue) (why : Refusal) → MayRefuse asked why → IsStatusOf asked (refusal_status why)
 may_refuse faulty why same = subst (λ (x : Refusal). IsStatusOf faulty (refusal_status x)) (sym same) (inr (inl refl))
-may_refuse (quick port q) (Port fault) may = inr (inr (inr (inr (inl refl))))
-may_refuse (quick port q) HeldRange may = inr (inr (inr (inr (inr (inl refl)))))
-may_refuse (quick port q) NotBuilt may = absurd may
 may_refuse (quick port q) Words may = absurd may
+may_refuse (quick port q) (Port fault) may = inr (inr (inr (inr (inl refl))))
 may_refuse (quick port q) (Job fault) may = absurd may
+may_refuse (quick port q) HeldRange may = inr (inr (inr (inr (inr (inl refl)))))
 may_refuse (quick port q) (Certificate fault) may = absurd may
-may_refuse (solve port job cert) NotBuilt may = absurd may
+may_refuse (quick port q) (Differs d) may = absurd may
 may_refuse (solve port job cert) Words may = absurd may
 may_refuse (solve port job cert) (Port fault) may = inr (inr (inr (inr (inl refl))))
 may_refuse (solve port job cert) (Job fault) may = inr (inr (inr (inr (inr (inl refl)))))
 may_refuse (solve port job cert) HeldRange may = absurd may
 may_refuse (solve port job cert) (Certificate fault) may = absurd may
-may_refuse (check cert) NotBuilt may = inr (inr (inl refl))
+may_refuse (solve port job cert) (Differs d) may = absurd may
 may_refuse (check cert) Words may = absurd may
 may_refuse (check cert) (Port fault) may = absurd may
 may_refuse (check cert) (Job fault) may = absurd may
 may_refuse (check cert) HeldRange may = absurd may
-may_refuse (check cert) (Certificate fault) may = absurd may
-may_refuse (verify port job cert) NotBuilt may = inr (inr (inl refl))
+may_refuse (check cert) (Certificate fault) may = inr (inr (inr (inr (inl refl))))
+may_refuse (check cert) (Differs d) may = absurd may
 may_refuse (verify port job cert) Words may = absurd may
-may_refuse (verify port job cert) (Port fault) may = absurd may
-may_refuse (verify port job cert) (Job fault) may = absurd may
+may_refuse (verify port job cert) (Port fault) may = inr (inr (inr (inr (inl refl))))
+may_refuse (verify port job cert) (Job fault) may = inr (inr (inr (inr (inr (inl refl)))))
 may_refuse (verify port job cert) HeldRange may = absurd may
-may_refuse (verify port job cert) (Certificate fault) may = absurd may
-may_refuse (demo q) NotBuilt may = inr (inl refl)
+may_refuse (verify port job cert) (Certificate fault) may = inr (inr (inr (inr (inr (inr (inl refl))))))
+may_refuse (verify port job cert) (Differs d) may = inr (inr (inr (inr (inr (inr (inr (inl refl)))))))
 may_refuse (demo q) Words may = absurd may
 may_refuse (demo q) (Port fault) may = absurd may
 may_refuse (demo q) (Job fault) may = absurd may
 may_refuse (demo q) HeldRange may = absurd may
 may_refuse (demo q) (Certificate fault) may = absurd may
+may_refuse (demo q) (Differs d) may = absurd may
 
 -- the status of a refusal is neither 3 nor 4
 not_three : (why : Refusal) → refusal_status why ≡ 3 → ⊥
 not_three Words e = omega arith
-not_three NotBuilt e = omega arith
 not_three (Port fault) e = omega arith
 not_three (Job fault) e = omega arith
 not_three HeldRange e = omega arith
 not_three (Certificate fault) e = omega arith
+not_three (Differs d) e = omega arith
 
 not_four : (why : Refusal) → refusal_status why ≡ 4 → ⊥
 not_four Words e = omega arith
-not_four NotBuilt e = omega arith
 not_four (Port fault) e = omega arith
 not_four (Job fault) e = omega arith
 not_four HeldRange e = omega arith
 not_four (Certificate fault) e = omega arith
+not_four (Differs d) e = omega arith
 
 -- a ruling allows want of memory and a read fault
 allows_one : (r : Result Task Refusal) → Allows r 1
@@ -204,18 +195,24 @@ kept_calm asked f s g t r ruled later = record {
   sink_later = later;
 }
 
-outside_one : {T : Type 0} (name : List ℕ) (old mid new : List ℕ → T) → SameEverywhere old mid → ((other : List ℕ) → other ≢ name → new other ≡ mid other) → SameOutside (name ∷ []) old new
-outside_one name old mid new same elsewhere = λ other none. elsewhere other none.0 ∙ same other
+-- what doing a task leaves, from the files m and the sink s to g and t
+record IsLeft (asked : FormValue) (m : FilesNow) (s : SinkNow) (g : FilesNow) (t : SinkNow) (r : Result (Unit {0}) Stop) : Type 0 where
+  contents : SameOutside (writes asked) m.content g.content
+  reads : SameEverywhere m.read_faults g.read_faults
+  others : SameOutside (writes asked) m.write_faults g.write_faults
+  later_files : NoneFell m.write_faults g.write_faults
+  later_sink : s.faults ≤ t.faults
+  cause : IfErr r (WriteCause (Rose s.faults t.faults ⊎ FailedIn (writes asked) m g))
 
--- a ruling and a sweep leave this
-kept_swept : (asked : FormValue) (f m : FilesNow) (s : SinkNow) (g : FilesNow) (t : SinkNow) (task : Task) → writes asked ≡ cert_in asked ∷ [] → IsRuledForm asked f m (Ok task) → Keeps (cert_in asked) m s g t → IsKept asked f s g t
-kept_swept asked f m s g t task one ruled keeps = record {
-  contents = subst (λ (names : List (List ℕ)). SameOutside names f.content g.content) (sym one) (outside_one (cert_in asked) f.content m.content g.content ruled.contents keeps.contents);
-  others = λ other none. keeps.reads other ∙ ruled.others other none;
-  later = λ other. le_same _ _ _ (ruled.later other) (keeps.reads other);
-  writes_others = subst (λ (names : List (List ℕ)). SameOutside names f.write_faults g.write_faults) (sym one) (outside_one (cert_in asked) f.write_faults m.write_faults g.write_faults ruled.writes keeps.others);
-  writes_later = λ other. same_le_on _ _ _ (ruled.writes other) (keeps.later_files other);
-  sink_later = keeps.later_sink;
+-- a ruling and a task leave this
+kept_done : (asked : FormValue) (f m : FilesNow) (s : SinkNow) (g : FilesNow) (t : SinkNow) (task : Task) (r : Result (Unit {0}) Stop) → IsRuledForm asked f m (Ok task) → IsLeft asked m s g t r → IsKept asked f s g t
+kept_done asked f m s g t task r ruled left = record {
+  contents = λ other none. left.contents other none ∙ ruled.contents other;
+  others = λ other none. left.reads other ∙ ruled.others other none;
+  later = λ other. le_same _ _ _ (ruled.later other) (left.reads other);
+  writes_others = λ other none. left.others other none ∙ ruled.writes other;
+  writes_later = λ other. same_le_on _ _ _ (ruled.writes other) (left.later_files other);
+  sink_later = left.later_sink;
 }
 
 -- what is ruled, and what came of it
@@ -236,46 +233,117 @@ comes_of asked f s g t r n ruling possible allowed unread rose comes kept = reco
   sink_later = kept.sink_later;
 }
 
--- a sweep was run from the files m on
-performed : (asked : FormValue) (f m : FilesNow) (s : SinkNow) (g : FilesNow) (t : SinkNow) (task : Task) (r : Result (Unit {0}) Stop) → IsRuledForm asked f m (Ok task) → Sweeps (asked_by task) (cert_in asked) m s g t r → Performs task (cert_in asked) f s g t (status_number r)
-performed asked f m s g t task r ruled sweeps = record {
+-- why a sweep stopped
+cause_swept : (name : List ℕ) (m : FilesNow) (s : SinkNow) (g : FilesNow) (t : SinkNow) (swept : Result (Unit {0}) Stopped) → HasCause name m s g t swept → IfErr (ended_by swept) (WriteCause (Rose s.faults t.faults ⊎ FailedIn (name ∷ []) m g))
+cause_swept name m s g t (Ok done) cause = tt
+cause_swept name m s g t (Err trace.WriteFault) (inl rose) = inl rose
+cause_swept name m s g t (Err trace.WriteFault) (inr rose) = inr (inl rose)
+cause_swept name m s g t (Err trace.OutOfMemory) cause = tt
+
+cause_named : (asked : FormValue) (name : List ℕ) (m : FilesNow) (s : SinkNow) (g : FilesNow) (t : SinkNow) (r : Result (Unit {0}) Stop) → writes asked ≡ name ∷ [] → IfErr r (WriteCause (Rose s.faults t.faults ⊎ FailedIn (name ∷ []) m g)) → IfErr r (WriteCause (Rose s.faults t.faults ⊎ FailedIn (writes asked) m g))
+cause_named asked name m s g t r one cause = subst (λ (names : List (List ℕ)). IfErr r (WriteCause (Rose s.faults t.faults ⊎ FailedIn names m g))) (sym one) cause
+
+-- a sweep leaves all but the file of its certificate
+left_swept : (asked : FormValue) (work : Asked) (name : List ℕ) (m : FilesNow) (s : SinkNow) (g : FilesNow) (t : SinkNow) (r : Result (Unit {0}) Stop) → writes asked ≡ name ∷ [] → Sweeps work name m s g t r → IsLeft asked m s g t r
+left_swept asked work name m s g t r one sweeps =
+    let keeps = sweeps.runs.keeps in
+    record {
+      contents = subst (λ (names : List (List ℕ)). SameOutside names m.content g.content) (sym one) (λ other none. keeps.contents other none.0);
+      reads = keeps.reads;
+      others = subst (λ (names : List (List ℕ)). SameOutside names m.write_faults g.write_faults) (sym one) (λ other none. keeps.others other none.0);
+      later_files = keeps.later_files;
+      later_sink = keeps.later_sink;
+      cause = cause_named asked name m s g t r one
+          (subst (λ (x : Result (Unit {0}) Stop). IfErr x (WriteCause (Rose s.faults t.faults ⊎ FailedIn (name ∷ []) m g))) (sym sweeps.ended) (cause_swept name m s g t sweeps.swept sweeps.runs.cause));
+    }
+
+-- telling a verdict leaves all files
+cause_told : (P Q : Type 0) (r : Result (Unit {0}) Stop) → IfErr r (WriteCause P) → IfErr r (WriteCause (P ⊎ Q))
+cause_told P Q (Ok done) cause = tt
+cause_told P Q (Err (Refused why)) cause = cause
+cause_told P Q (Err ReadFault) cause = cause
+cause_told P Q (Err WriteFault) cause = inl cause
+cause_told P Q (Err OutOfMemory) cause = tt
+
+left_told : (asked : FormValue) (v : VerdictValue) (m : FilesNow) (s : SinkNow) (g : FilesNow) (t : SinkNow) (r : Result (Unit {0}) Stop) → Tells v m s g t r → IsLeft asked m s g t r
+left_told asked v m s g t r tells = record {
+  contents = λ other none. ap (λ (x : FilesNow). x.content other) tells.files;
+  reads = λ other. ap (λ (x : FilesNow). x.read_faults other) tells.files;
+  others = λ other none. ap (λ (x : FilesNow). x.write_faults other) tells.files;
+  later_files = λ other. same_le _ _ (ap (λ (x : FilesNow). x.write_faults other) tells.files);
+  later_sink = tells.printed.later;
+  cause = cause_told _ _ r tells.printed.cause;
+}
+
+left_by : (asked : FormValue) (task : Task) (m : FilesNow) (s : SinkNow) (g : FilesNow) (t : SinkNow) (r : Result (Unit {0}) Stop) → MayDo asked task → Does task (cert_in asked) m s g t r → IsLeft asked m s g t r
+left_by faulty task m s g t r may does = absurd may
+left_by (quick port q) (Quick work) m s g t r may does = left_swept (quick port q) (asked_for Single work) unnamed m s g t r refl does
+left_by (quick port q) (Solve work) m s g t r may does = absurd may
+left_by (quick port q) (Demo work) m s g t r may does = absurd may
+left_by (quick port q) (Check v) m s g t r may does = absurd may
+left_by (quick port q) (Verify v) m s g t r may does = absurd may
+left_by (solve port job cert) (Quick work) m s g t r may does = absurd may
+left_by (solve port job cert) (Solve work) m s g t r may does = left_swept (solve port job cert) (asked_for Whole work) cert m s g t r refl does
+left_by (solve port job cert) (Demo work) m s g t r may does = absurd may
+left_by (solve port job cert) (Check v) m s g t r may does = absurd may
+left_by (solve port job cert) (Verify v) m s g t r may does = absurd may
+left_by (check cert) (Quick work) m s g t r may does = absurd may
+left_by (check cert) (Solve work) m s g t r may does = absurd may
+left_by (check cert) (Demo work) m s g t r may does = absurd may
+left_by (check cert) (Check v) m s g t r may does = left_told (check cert) v m s g t r does
+left_by (check cert) (Verify v) m s g t r may does = absurd may
+left_by (verify port job cert) (Quick work) m s g t r may does = absurd may
+left_by (verify port job cert) (Solve work) m s g t r may does = absurd may
+left_by (verify port job cert) (Demo work) m s g t r may does = absurd may
+left_by (verify port job cert) (Check v) m s g t r may does = absurd may
+left_by (verify port job cert) (Verify v) m s g t r may does = left_told (verify port job cert) v m s g t r does
+left_by (demo q) (Quick work) m s g t r may does = absurd may
+left_by (demo q) (Solve work) m s g t r may does = absurd may
+left_by (demo q) (Demo work) m s g t r may does = left_swept (demo q) (asked_for Whole work) unnamed m s g t r refl does
+left_by (demo q) (Check v) m s g t r may does = absurd may
+left_by (demo q) (Verify v) m s g t r may does = absurd may
+
+-- a task was done from the files m on
+performed : (asked : FormValue) (f m : FilesNow) (s : SinkNow) (g : FilesNow) (t : SinkNow) (task : Task) (r : Result (Unit {0}) Stop) → IsRuledForm asked f m (Ok task) → Does task (cert_in asked) m s g t r → Performs task (cert_in asked) f s g t (status_number r)
+performed asked f m s g t task r ruled does = record {
   m = m;
   contents = ruled.contents;
   write_faults = ruled.writes;
   result = r;
-  sweeps = sweeps;
+  does = does;
   status_is = refl;
 }
 
--- why a sweep stopped with a write fault
-rose_one : (name : List ℕ) (f m : FilesNow) (s : SinkNow) (g : FilesNow) (t : SinkNow) → SameEverywhere f.write_faults m.write_faults → Rose s.faults t.faults ⊎ Rose (m.write_faults name) (g.write_faults name) → Rose s.faults t.faults ⊎ FailedIn (name ∷ []) f g
-rose_one name f m s g t same (inl rose) = inl rose
-rose_one name f m s g t same (inr rose) = inr (inl (subst (λ (n : ℕ). Rose n (g.write_faults name)) (same name) rose))
+failed_from : (names : List (List ℕ)) (f m g : FilesNow) → SameEverywhere f.write_faults m.write_faults → FailedIn names m g → FailedIn names f g
+failed_from [] f m g same failed = absurd failed
+failed_from (name ∷ names) f m g same (inl rose) = inl (subst (λ (n : ℕ). Rose n (g.write_faults name)) (same name) rose)
+failed_from (name ∷ names) f m g same (inr failed) = inr (failed_from names f m g same failed)
 
-rose_of : (asked : FormValue) (f m : FilesNow) (s : SinkNow) (g : FilesNow) (t : SinkNow) → writes asked ≡ cert_in asked ∷ [] → SameEverywhere f.write_faults m.write_faults → HasCause (cert_in asked) m s g t (Err trace.WriteFault) → Rose s.faults t.faults ⊎ FailedIn (writes asked) f g
-rose_of asked f m s g t one same cause =
-    subst (λ (names : List (List ℕ)). Rose s.faults t.faults ⊎ FailedIn names f g) (sym one) (rose_one (cert_in asked) f m s g t same cause)
+rose_from : (names : List (List ℕ)) (f m g : FilesNow) (s t : SinkNow) → SameEverywhere f.write_faults m.write_faults → Rose s.faults t.faults ⊎ FailedIn names m g → Rose s.faults t.faults ⊎ FailedIn names f g
+rose_from names f m g s t same (inl rose) = inl rose
+rose_from names f m g s t same (inr failed) = inr (failed_from names f m g same failed)
 
-swept_done : (asked : FormValue) (f m : FilesNow) (s : SinkNow) (g : FilesNow) (t : SinkNow) (task : Task) (swept : Result (Unit {0}) Stopped) → IsRuledForm asked f m (Ok task) → MayDo asked task → Runs (asked_by task) (cert_in asked) m s g t swept → Answers asked f s g t (status_number (ended_by swept))
-swept_done asked f m s g t task (Ok done) ruled may runs =
+done_by : (asked : FormValue) (f m : FilesNow) (s : SinkNow) (g : FilesNow) (t : SinkNow) (task : Task) (r : Result (Unit {0}) Stop) → IsRuledForm asked f m (Ok task) → MayDo asked task → Does task (cert_in asked) m s g t r → IsLeft asked m s g t r → Answers asked f s g t (status_number r)
+done_by asked f m s g t task (Ok done) ruled may does left =
     comes_of asked f s g t (Ok task) 0 ruled.tells (may_zero asked task may) (inl refl) (λ e. omega arith) (λ e. absurd (omega arith))
-    (performed asked f m s g t task (Ok done) ruled (record { swept = Ok done; runs = runs; ended = refl })) (kept_swept asked f m s g t task (writes_cert asked task may) ruled runs.keeps)
-swept_done asked f m s g t task (Err trace.WriteFault) ruled may runs =
-    comes_of asked f s g t (Ok task) 4 ruled.tells (may_four asked task may) (inr (inr (inr (inl refl)))) (λ e. omega arith) (λ e. rose_of asked f m s g t (writes_cert asked task may) ruled.writes runs.cause)
-    (performed asked f m s g t task (Err WriteFault) ruled (record { swept = Err trace.WriteFault; runs = runs; ended = refl })) (kept_swept asked f m s g t task (writes_cert asked task may) ruled runs.keeps)
-swept_done asked f m s g t task (Err trace.OutOfMemory) ruled may runs =
+    (performed asked f m s g t task (Ok done) ruled does) (kept_done asked f m s g t task (Ok done) ruled left)
+done_by asked f m s g t task (Err WriteFault) ruled may does left =
+    comes_of asked f s g t (Ok task) 4 ruled.tells (may_four asked task may) (inr (inr (inr (inl refl)))) (λ e. omega arith) (λ e. rose_from (writes asked) f m g s t ruled.writes left.cause)
+    (performed asked f m s g t task (Err WriteFault) ruled does) (kept_done asked f m s g t task (Err WriteFault) ruled left)
+done_by asked f m s g t task (Err OutOfMemory) ruled may does left =
     comes_of asked f s g t (Ok task) 1 ruled.tells (may_one asked) (inr (inl refl)) (λ e. omega arith) (λ e. absurd (omega arith))
-    (performed asked f m s g t task (Err OutOfMemory) ruled (record { swept = Err trace.OutOfMemory; runs = runs; ended = refl })) (kept_swept asked f m s g t task (writes_cert asked task may) ruled runs.keeps)
+    (performed asked f m s g t task (Err OutOfMemory) ruled does) (kept_done asked f m s g t task (Err OutOfMemory) ruled left)
+done_by asked f m s g t task (Err ReadFault) ruled may does left = absurd left.cause
+done_by asked f m s g t task (Err (Refused why)) ruled may does left = absurd left.cause
 
 -- a task was done, or stopped on the way
-answers_work : (asked : FormValue) (f m : FilesNow) (s : SinkNow) (g : FilesNow) (t : SinkNow) (task : Task) (r : Result (Unit {0}) Stop) → IsRuledForm asked f m (Ok task) → FitsForm asked (Ok task) → Sweeps (asked_by task) (cert_in asked) m s g t r → Answers asked f s g t (status_number r)
-answers_work asked f m s g t task r ruled may sweeps =
-    subst (λ (x : Result (Unit {0}) Stop). Answers asked f s g t (status_number x)) (sym sweeps.ended) (swept_done asked f m s g t task sweeps.swept ruled may sweeps.runs)
+answers_work : (asked : FormValue) (f m : FilesNow) (s : SinkNow) (g : FilesNow) (t : SinkNow) (task : Task) (r : Result (Unit {0}) Stop) → IsRuledForm asked f m (Ok task) → FitsForm asked (Ok task) → Does task (cert_in asked) m s g t r → Answers asked f s g t (status_number r)
+answers_work asked f m s g t task r ruled may does = done_by asked f m s g t task r ruled may does (left_by asked task m s g t r may does)
 
 -- the same where its certificate goes into the file of this name
-pub answers_named : (asked : FormValue) (name : List ℕ) (f m : FilesNow) (s : SinkNow) (g : FilesNow) (t : SinkNow) (task : Task) (r : Result (Unit {0}) Stop) → name ≡ cert_in asked → IsRuledForm asked f m (Ok task) → FitsForm asked (Ok task) → Sweeps (asked_by task) name m s g t r → Answers asked f s g t (status_number r)
-answers_named asked name f m s g t task r same ruled may sweeps =
-    answers_work asked f m s g t task r ruled may (subst (λ (x : List ℕ). Sweeps (asked_by task) x m s g t r) same sweeps)
+pub answers_named : (asked : FormValue) (name : List ℕ) (f m : FilesNow) (s : SinkNow) (g : FilesNow) (t : SinkNow) (task : Task) (r : Result (Unit {0}) Stop) → name ≡ cert_in asked → IsRuledForm asked f m (Ok task) → FitsForm asked (Ok task) → Does task name m s g t r → Answers asked f s g t (status_number r)
+answers_named asked name f m s g t task r same ruled may does =
+    answers_work asked f m s g t task r ruled may (subst (λ (x : List ℕ). Does task x m s g t r) same does)
 
 answers_refusal : (asked : FormValue) (f : FilesNow) (s : SinkNow) (g : FilesNow) (t : SinkNow) (why : Refusal) (stop : Stop) → IsRuledForm asked f g (Err (halt.Refused why)) → MayRefuse asked why → Refuses why s t stop → Answers asked f s g t (status_number (Err stop))
 answers_refusal asked f s g t why stop ruled may refuses =

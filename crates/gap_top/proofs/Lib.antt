@@ -2,3 +2,4 @@ pub mod PrintLaws
 pub mod AnswerLaws
 pub mod CompleteLaws
 pub mod RightLaws
+pub mod TellLaws

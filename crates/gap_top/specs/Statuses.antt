@@ -25,9 +25,9 @@ abbrev pub IsStatusOf : FormValue → ℕ → Type 0
 IsStatusOf faulty n = IsOneOf (1 ∷ 2 ∷ []) n
 IsStatusOf (quick port asked) n = IsOneOf (0 ∷ 1 ∷ 3 ∷ 4 ∷ 5 ∷ 6 ∷ []) n
 IsStatusOf (solve port job cert) n = IsOneOf (0 ∷ 1 ∷ 3 ∷ 4 ∷ 5 ∷ 6 ∷ []) n
-IsStatusOf (check cert) n = IsOneOf (1 ∷ 3 ∷ 9 ∷ []) n
-IsStatusOf (verify port job cert) n = IsOneOf (1 ∷ 3 ∷ 9 ∷ []) n
-IsStatusOf (demo asked) n = IsOneOf (1 ∷ 9 ∷ []) n
+IsStatusOf (check cert) n = IsOneOf (0 ∷ 1 ∷ 3 ∷ 4 ∷ 7 ∷ []) n
+IsStatusOf (verify port job cert) n = IsOneOf (0 ∷ 1 ∷ 3 ∷ 4 ∷ 5 ∷ 6 ∷ 7 ∷ 8 ∷ []) n
+IsStatusOf (demo asked) n = IsOneOf (0 ∷ 1 ∷ 4 ∷ []) n
 
 -- the statuses that a ruling allows: a task is done, or stops for memory or a fault; a refusal has its own, unless memory
 -- or a read fault comes before it

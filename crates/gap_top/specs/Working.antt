@@ -5,7 +5,7 @@ use Rattle.gap_words.specs.Forms.{FormValue, faulty, quick, solve, check, verify
 use Rattle.gap_words.specs.Names.{unnamed}
 use Rattle.gap_model.specs.declared.outcome.Told.{Told}
 use Rattle.gap_rule.specs.declared.task.Task.{Task}
-use Rattle.gap_rule.specs.declared.task.Task.TheVariants.{Quick, Solve}
+use Rattle.gap_rule.specs.declared.task.Task.TheVariants.{Quick, Solve, Demo, Check, Verify}
 use Rattle.gap_rule.specs.declared.task.Work.{Work}
 use Rattle.gap_sweep.specs.declared.style.Style.{Style}
 use Rattle.gap_sweep.specs.declared.style.Style.TheVariants.{Whole, Single}
@@ -14,6 +14,7 @@ use Rattle.gap_sweep.specs.Runs.{Runs}
 use Rattle.gap_trace.specs.declared.halt.Halt.{Halt}
 use Rattle.gap_trace.specs.declared.halt.Halt.TheVariants as halt
 use Rattle.gap_top.specs.Statuses.{status_number}
+use Rattle.gap_top.specs.Telling.{Tells}
 use Rattle.gap_top.specs.declared.stop.Stop.{Stop}
 use Rattle.gap_top.specs.declared.stop.Stop.TheVariants.{WriteFault, OutOfMemory}
 
@@ -30,11 +31,6 @@ cert_in (demo asked) = unnamed
 abbrev pub asked_for : Style → Work → Asked
 asked_for style work = record { instance = work.inst; rounded = work.rounded; weights = work.weights; nodes = work.nodes; style = style }
 
--- what a sweep is asked for a task: `quick` prints the lines of its weight alone
-abbrev pub asked_by : Task → Asked
-asked_by (Quick work) = asked_for Single work
-asked_by (Solve work) = asked_for Whole work
-
 -- what a run ends with, by what its sweep ended with
 abbrev pub ended_by : Result (Unit {0}) Halt → Result (Unit {0}) Stop
 ended_by (Ok done) = Ok done
@@ -47,14 +43,23 @@ pub record Sweeps (asked : Asked) (name : List ℕ) (f : FilesNow) (s : SinkNow)
   pub runs : Runs asked name f s g t swept
   pub ended : result ≡ ended_by swept
 
+-- a task was done, or stopped on the way: its work was swept, where `quick` prints the lines of its weight alone; or its
+-- verdict was told
+abbrev pub Does : Task → List ℕ → FilesNow → SinkNow → FilesNow → SinkNow → Result (Unit {0}) Stop → Type 0
+Does (Quick work) name f s g t result = Sweeps (asked_for Single work) name f s g t result
+Does (Solve work) name f s g t result = Sweeps (asked_for Whole work) name f s g t result
+Does (Demo work) name f s g t result = Sweeps (asked_for Whole work) name f s g t result
+Does (Check v) name f s g t result = Tells v f s g t result
+Does (Verify v) name f s g t result = Tells v f s g t result
+
 -- a task ended with a status: from the files m on, which have the contents and the counts of write faults that f has, since
--- between the two files were read alone, its sweep was run
+-- between the two files were read alone, it was done
 pub record Performs (task : Task) (name : List ℕ) (f : FilesNow) (s : SinkNow) (g : FilesNow) (t : SinkNow) (status : ℕ) : Type 0 where
   pub m : FilesNow
   pub contents : SameEverywhere f.content m.content
   pub write_faults : SameEverywhere f.write_faults m.write_faults
   pub result : Result (Unit {0}) Stop
-  pub sweeps : Sweeps (asked_by task) name m s g t result
+  pub does : Does task name m s g t result
   pub status_is : status ≡ status_number result
 
 -- what is told of a weight that was done

@@ -11,7 +11,7 @@ ghost use Rattle.gap_sweep.specs.Runs.{HasDone};
 ghost use Rattle.gap_sweep.specs.declared.style.Style.{Style};
 ghost use Rattle.gap_top.specs.Working.{asked_for, told_of};
 ghost use Rattle.gap_files.specs.Outside.{FilesNow, SinkNow, Rose};
-ghost use Rattle.gap_words.specs.Forms.{FormValue};
+ghost use Rattle.gap_words.specs.Forms.{FormValue, check, verify};
 ghost use Rattle.gap_words.specs.Names.{reads, writes};
 ghost use Rattle.gap_words.specs.Refusals.{refusal_status};
 ghost use Rattle.gap_words.specs.declared.refusal.Refusal.{Refusal};
@@ -19,6 +19,8 @@ ghost use Rattle.gap_rule.specs.Names.{AreTold, RoseIn, held};
 ghost use Rattle.gap_rule.specs.Rules.{Rules};
 ghost use Rattle.gap_rule.specs.declared.task.Task.{Task};
 ghost use Rattle.gap_top.specs.Answers.{Answers, FailedIn};
+ghost use Rattle.gap_top.specs.Telling.{IsChecked, IsVerified};
+ghost use Rattle.gap_valid.specs.Verdicts.{VerdictValue};
 
 /// Completeness: where the contents of the files are told and no count rose, a task is done or memory was wanted, and a
 /// refusal has its own status or memory was wanted.
@@ -37,4 +39,15 @@ pub fn answers_are_complete()
 pub fn answers_are_right()
     ensures { (style : Style) (market : MarketValue) (job : Job) (shift : ShiftValue) (done : List Done)
         → HasDone (asked_for style (work_of market job)) shift done → All (λ d. IsToldRight (instance_of market job) (told_of d)) done }
+{}
+
+/// What `check` and `verify` print is right: where a certificate is accepted, its portfolios meet every limit of the instance in
+/// its bytes and have exactly their objectives, none that meets the limits is below a bound, and that there is none is told only
+/// where there is none. What `verify` prints is so for the market and the job of the files, whose instance, budget and
+/// weights the certificate then has.
+pub fn verdicts_are_right()
+    ensures check { (cert : List ℕ) (holds : List ℕ → List ℕ) (v : VerdictValue)
+        → Rules (check cert) holds (Ok (Task.Check v)) → IsChecked (holds cert) v }
+    ensures verify { (port job cert : List ℕ) (holds : List ℕ → List ℕ) (v : VerdictValue)
+        → Rules (verify port job cert) holds (Ok (Task.Verify v)) → IsVerified (holds port) (holds job) (holds cert) v }
 {}

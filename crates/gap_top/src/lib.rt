@@ -12,10 +12,11 @@ mod laws;
 mod perform;
 mod print;
 mod stop;
+mod tell;
 #[cfg(test)]
 mod tests;
 
-pub use crate::laws::{answers_are_complete, answers_are_right};
+pub use crate::laws::{answers_are_complete, answers_are_right, verdicts_are_right};
 use crate::perform::perform;
 use crate::print::end_by;
 use crate::stop::{Stop, status_of};
@@ -32,18 +33,22 @@ use std::alloc::Global;
 /// | 0 | done | the whole report was written |
 /// | 1 | want of memory | free, nothing is tied to it |
 /// | 2 | words | exactly where the words aren't in the form of a command |
-/// | 3 | read fault | only where the count of read faults of PORT or JOB rose in this call |
-/// | 4 | write fault | only where the sink's count of faults rose in this call, or CERT's count of write faults |
+/// | 3 | read fault | only where the count of read faults of a file that the command reads rose in this call |
+/// | 4 | write fault | only where the sink's count of faults rose in this call, or CERT's count of write faults in a command that writes it |
 /// | 5 | port refused | exactly where the content of PORT is no market |
 /// | 6 | job refused | exactly where the content of JOB is no job, or `quick` has HELD above the number of assets |
-/// | 9 | not built | exactly where the words are those of `check`, `verify` or `demo` |
+/// | 7 | certificate refused | exactly where the content of CERT is no encoding of a valid certificate |
+/// | 8 | verify differs | exactly where its instance, budget or weights aren't those of the market and the job |
 ///
 /// Each 'exactly where' holds if no earlier refusal in this order came: words, a fault in reading PORT, port, a fault in
-/// reading JOB, job, the work and the writes; and it yields to want of memory. The statuses 2 and 9 come before any read. A
-/// refusal writes its line, whole where the sink's count didn't rise. `quick` and `solve` put out their report and their
-/// certificate, or a front of both in their order; the certificate of `quick` goes into the unnamed file. 3 writes nothing.
+/// reading JOB, job, a fault in reading CERT, certificate, difference, the work and the writes; and it yields to want of
+/// memory. The status 2 comes before any read. A refusal writes its line, whole where the sink's count didn't rise. `quick`,
+/// `solve` and `demo` put out their report and their certificate, or a front of both in their order; the certificate of
+/// `quick` and `demo` goes into the unnamed file. `check` and `verify` write one line for each weight and `yes`, or a front of
+/// them, once the whole certificate is accepted; what they tell is right. 3 writes nothing.
 ///
-/// One pass over the bytes of PORT and JOB, O(N * N) steps and memory for N assets, and what the searches cost.
+/// One pass over the bytes of PORT, JOB and a CERT that is read, O(N * N) steps and memory for N assets, and what the
+/// searches or the leaves of the certificate cost.
 pub fn run<F: Files, S: Sink>(alloc: Global, words: &[String], files: &mut F, out: &mut S) -> u8
     ensures { Answers (form (map string_bytes words.now))
         (F.files files.old) (S.sink out.old) (F.files files.new) (S.sink out.new) result }

@@ -1,9 +1,10 @@
-//! The work of a task: a certificate goes into its file, and the lines to the sink.
+//! The work of a task: a certificate goes into its file, and the lines to the sink; or what a certificate tells is printed.
 ghost use Rattle.std.specs.Prelude.{◌≡◌};
-ghost use Rattle.gap_rule.specs.Steps.{IsReady, work_in};
-ghost use Rattle.gap_top.specs.Working.{asked_for, asked_by, ended_by, Sweeps};
+ghost use Rattle.gap_rule.specs.Steps.{IsReady, CanBeDone};
+ghost use Rattle.gap_top.specs.Working.{asked_for, ended_by, Sweeps, Does};
 
 use crate::stop::Stop;
+use crate::tell::tell;
 use gap_files::{Files, Sink};
 use gap_rule::{Task, Work};
 use gap_sweep::{Style, solve_all};
@@ -55,11 +56,15 @@ pub(crate) fn perform<F: Files, S: Sink>(
     files: &mut F,
     out: &mut S,
 ) -> Result<(), Stop>
-    requires { IsReady (work_in task.now) }
-    ensures { Sweeps (asked_by task.now) name.now (F.files files.old) (S.sink out.old) (F.files files.new) (S.sink out.new) result }
+    requires { CanBeDone task.now }
+    ensures { Does task.now name.now (F.files files.old) (S.sink out.old) (F.files files.new) (S.sink out.new) result }
 {
     match task {
         Task::Quick(work) => sweep(alloc, work, Style::Single, name, files, out),
-        Task::Solve(work) => sweep(alloc, work, Style::Whole, name, files, out),
+        Task::Solve(work) | Task::Demo(work) => {
+            sweep(alloc, work, Style::Whole, name, files, out)
+        }
+        Task::Check(verdict) => tell(alloc, verdict, out),
+        Task::Verify(verdict) => tell(alloc, verdict, out),
     }
 }

@@ -29,9 +29,6 @@ fn answer_to(alloc: Global, line: &str, text: &str) -> Result<(u8, SteadySink), 
 #[test]
 fn words_decide_before_any_read(rt: HostRuntime) -> Result<(), Fail> {
     let rows = [
-        ("check CERT", 9, "notbuilt\n"),
-        ("verify PORT JOB CERT", 9, "notbuilt\n"),
-        ("demo 7 31 10 100 20", 9, "notbuilt\n"),
         (
             "solve PORT JOB JOB",
             2,
@@ -320,6 +317,161 @@ fn solve_refuses_jobs(rt: HostRuntime) -> Result<(), Fail> {
         assert_eq!(rt; sink.bytes(), text.as_bytes(), "{job}");
         assert!(rt; files.content("CERT").is_none(), "{job}");
     }
+    Ok(())
+}
+
+/// A job for two assets in ten lots of which both are held, for risk alone.
+const JOB: &str = r#"{"lots":10,"held":2,"weights":[[1,1]],"nodes":0}"#;
+
+/// What `check` and `verify` tell of its certificate.
+const VERDICT: &str =
+    "weight 1/1 closed objective 800000000000000000/100000000000000000000 bound 800000000000000000/100000000000000000000\nyes\n";
+
+/// What is answered and written for these words over these files.
+fn told(alloc: Global, files: &mut SteadyFiles, line: &str) -> Result<(u8, SteadySink), Fail> {
+    let words = words_of(alloc, line)?;
+    let mut sink = SteadySink::new(alloc);
+    let status = run(alloc, &words, files, &mut sink);
+    Ok((status, sink))
+}
+
+/// The bytes of the certificate in the files.
+fn certificate(alloc: Global, files: &SteadyFiles) -> Result<Vec<u8>, Fail> {
+    let mut bytes = Vec::new(alloc);
+    bytes.extend_from_slice(files.content("CERT").unwrap_or(b"".as_slice()))?;
+    Ok(bytes)
+}
+
+#[test]
+fn check_tells_what_a_certificate_says(rt: HostRuntime) -> Result<(), Fail> {
+    let alloc = rt.alloc();
+    let (_, _, mut files) = solved(alloc, A, JOB)?;
+    let mut cut = certificate(alloc, &files)?;
+    cut.truncate(187);
+    files.put("CUT", cut.as_slice())?;
+    let mut longer = certificate(alloc, &files)?;
+    longer.push(0)?;
+    files.put("LONGER", longer.as_slice())?;
+    // the last byte of the objective
+    let mut raised = certificate(alloc, &files)?;
+    if let Some(byte) = raised.get_mut(138) {
+        *byte = byte.wrapping_add(1);
+    }
+    files.put("RAISED", raised.as_slice())?;
+    let rows = [
+        ("check CERT", 0, VERDICT),
+        ("check CUT", 7, "certificate Short 187\n"),
+        ("check LONGER", 7, "certificate Trail 191\n"),
+        (
+            "check RAISED",
+            7,
+            "certificate Objective 123 800000000000000000 800000000000000001\n",
+        ),
+        ("check PORT", 7, "certificate Magic 0\n"),
+    ];
+    for (line, status, text) in rows {
+        let (found, sink) = told(alloc, &mut files, line)?;
+        assert_eq!(rt; found, status, "{line}");
+        assert_eq!(rt; sink.bytes(), text.as_bytes(), "{line}");
+    }
+    Ok(())
+}
+
+#[test]
+fn verify_compares_a_certificate(rt: HostRuntime) -> Result<(), Fail> {
+    let alloc = rt.alloc();
+    let (_, _, mut files) = solved(alloc, A, JOB)?;
+    let rows = [
+        (JOB, 0, VERDICT),
+        (
+            r#"{"lots":10,"held":2,"weights":[[1,1]],"nodes":0,"workers":16}"#,
+            0,
+            VERDICT,
+        ),
+        (
+            r#"{"lots":10,"held":2,"weights":[[1,1]],"nodes":0,"limits":[[2,1,9]]}"#,
+            8,
+            "differs greatest 2 10 9\n",
+        ),
+        (
+            r#"{"lots":10,"held":2,"weights":[[1,1]],"nodes":0,"present":[[2,3]]}"#,
+            8,
+            "differs present 2 0 3\n",
+        ),
+        (
+            r#"{"lots":10,"held":2,"weights":[[1,1]],"nodes":1}"#,
+            8,
+            "differs nodes 0 1\n",
+        ),
+        (
+            r#"{"lots":10,"held":2,"weights":[[1,2]],"nodes":0}"#,
+            8,
+            "differs weight 1 1/1 1/2\n",
+        ),
+        ("{", 6, "job NotJson\n"),
+    ];
+    for (job, status, text) in rows {
+        files.put("JOB", job.as_bytes())?;
+        let (found, sink) = told(alloc, &mut files, "verify PORT JOB CERT")?;
+        assert_eq!(rt; found, status, "{job}");
+        assert_eq!(rt; sink.bytes(), text.as_bytes(), "{job}");
+    }
+    files.put("JOB", JOB.as_bytes())?;
+    files.put("CERT", b"GAPCERT3".as_slice())?;
+    let (found, sink) = told(alloc, &mut files, "verify PORT JOB CERT")?;
+    assert_eq!(rt; found, 7, "a certificate of no version");
+    assert_eq!(rt; sink.bytes(), b"certificate Magic 7\n".as_slice());
+    files.put("PORT", b"1".as_slice())?;
+    let (found, sink) = told(alloc, &mut files, "verify PORT JOB CERT")?;
+    assert_eq!(rt; found, 5, "a port file comes first");
+    assert_eq!(rt; sink.bytes(), b"port Count 0\n".as_slice());
+    Ok(())
+}
+
+#[test]
+fn demo_is_the_same_at_each_run(rt: HostRuntime) -> Result<(), Fail> {
+    let alloc = rt.alloc();
+    let mut files = SteadyFiles::new(alloc);
+    let (status, first) = told(alloc, &mut files, "demo 7 31 10 100 20")?;
+    assert_eq!(rt; status, 0);
+    assert!(rt;
+        first
+            .bytes()
+            .starts_with(b"assets 31 rounded 0 shift ".as_slice())
+    );
+    // the market's line, and for each weight two lines and one of the frontier
+    let mut lines = 0u32;
+    for byte in first.bytes() {
+        if *byte == b'\n' {
+            lines = lines.saturating_add(1);
+        }
+    }
+    assert_eq!(rt; lines, 16);
+    let (_, second) = told(alloc, &mut files, "demo 7 31 10 100 20")?;
+    assert_eq!(rt; first.bytes(), second.bytes());
+    Ok(())
+}
+
+#[test]
+fn check_meets_faults_of_the_outside(rt: HostRuntime) -> Result<(), Fail> {
+    let alloc = rt.alloc();
+    let words = words_of(alloc, "check CERT")?;
+    let (_, _, files) = solved(alloc, A, JOB)?;
+    let bytes = certificate(alloc, &files)?;
+    // the second read comes behind the last byte
+    for k in 1..3u64 {
+        let mut unread = MemoryFiles::new(alloc, vec![in alloc; k]?);
+        unread.put("CERT", bytes.as_slice())?;
+        let mut sink = MemorySink::new(alloc, Vec::new(alloc));
+        assert_eq!(rt; run(alloc, &words, &mut unread, &mut sink), 3, "read {k}");
+        assert_eq!(rt; sink.bytes(), b"".as_slice(), "read {k}");
+    }
+    let mut whole = MemoryFiles::new(alloc, Vec::new(alloc));
+    whole.put("CERT", bytes.as_slice())?;
+    let mut broken = MemorySink::new(alloc, vec![in alloc; 1u64]?);
+    assert_eq!(rt; run(alloc, &words, &mut whole, &mut broken), 4, "the write");
+    assert_eq!(rt; run(alloc, &words, &mut whole, &mut broken), 0, "the next");
+    assert_eq!(rt; broken.bytes(), VERDICT.as_bytes());
     Ok(())
 }
 

@@ -1,10 +1,20 @@
-//! Splits of small parts.
+//! Splits of small parts, and tangent points of two assets.
 
-ghost use Rattle.std.specs.Prelude.{◌≤◌};
+ghost use Rattle.std.specs.Prelude.{◌≡◌, ◌≢◌, ◌≤◌, length, pos, negsuc, IsTrue, IfOk};
+ghost use Rattle.gap_box.specs.Parts.{IsWithin, root_cells};
+ghost use Rattle.gap_model.specs.declared.leaf.Leaf.TheVariants.{Void};
+ghost use Rattle.gap_model.specs.declared.shown.Shown.TheVariants.{Empty};
+ghost use Rattle.gap_model.specs.Leaves.{shows};
+ghost use Rattle.gap_tangent.specs.Seen.{setting_of};
 
-use crate::split_for;
-use gap_base::{Eighths, Lots};
+use crate::{split_for, tangent_point};
+use gap_base::{Eighths, Job, Lots, Market, OutOfMemory, Weight, Weights};
 use gap_box::{Part, Side, Split};
+use gap_instance::Instance;
+use gap_model::{Leaf, NodeBound, Shown};
+use gap_psd::{Shift, dominant};
+use gap_tangent::MeanVariance;
+use std::alloc::Global;
 use std::test::Fail;
 
 /// Three assets that may each be held with 1 to 10 lots.
@@ -95,5 +105,125 @@ fn the_widest_held_asset_is_cut(rt: HostRuntime) -> Result<(), Fail> {
     // 1 to 3 lots are left of asset 1, so 2 is wider, and a cut isn't below its least
     part.narrow(Split::Lots(1, 3), Side::First);
     assert_eq!(rt; split_by(&part, 1, 3, (80, 40, 0)), Some(Split::Lots(2, 7)));
+    Ok(())
+}
+
+/// Two assets that aren't correlated: ten lots in `fewest` to 2 of them.
+#[tactic(auto, using(gap_instance::proofs::LimitLaws::few_numbers))]
+fn two_assets(alloc: Global, fewest: u16) -> Result<Instance, OutOfMemory>
+    requires least { 1 ≤ fewest }
+    requires most { fewest ≤ 2 }
+    ensures { IfOk result (λ inst. inst.market.assets ≡ 2) }
+{
+    let mut market = Market::new(alloc, 2)?;
+    market.set_mean(0, 1_000);
+    market.set_mean(1, 2_000);
+    market.set_dev(0, 100_000);
+    market.set_dev(1, 200_000);
+    let job = Job {
+        lots: 10,
+        held: fewest,
+        held_most: 2,
+        least: Lots::filled(2, 1),
+        greatest: Lots::filled(2, 10),
+        present: Lots::zeros(2),
+        turnover: None,
+        weights: Weights::new(),
+        nodes: 0,
+        workers: 1,
+    };
+    Instance::new(alloc, market, &job)
+}
+
+/// Is it left open whether there is a list?
+fn is_open(shown: Shown) -> bool
+    ensures { IsTrue result → shown ≢ Empty }
+{
+    match shown {
+        Shown::Empty => false,
+        _ => true,
+    }
+}
+
+/// Does the void leaf of alpha 1 leave it open whether a part has a list that meets the limits?
+fn is_open_above(mv: &MeanVariance<'_>, part: &Part) -> bool
+    requires { IsWithin part.now (root_cells (setting_of mv.now).instance.least (setting_of mv.now).instance.greatest) }
+    ensures { IsTrue result → shows (setting_of mv.now) part.now (Void (pos 1) (pos 0) (pos 0)) ≢ Empty }
+{
+    let leaf = Leaf::Void {
+        alpha: 1,
+        tau: 0,
+        third: 0,
+    };
+    is_open(mv.shown(part, &leaf))
+}
+
+/// Does the void leaf of alpha -1 leave it open?
+fn is_open_below(mv: &MeanVariance<'_>, part: &Part) -> bool
+    requires { IsWithin part.now (root_cells (setting_of mv.now).instance.least (setting_of mv.now).instance.greatest) }
+    ensures { IsTrue result → shows (setting_of mv.now) part.now (Void (negsuc 0) (pos 0) (pos 0)) ≢ Empty }
+{
+    let leaf = Leaf::Void {
+        alpha: -1,
+        tau: 0,
+        third: 0,
+    };
+    is_open(mv.shown(part, &leaf))
+}
+
+/// The root's tangent point from a hint, where it has one.
+fn root_point(mv: &MeanVariance<'_>, hint: &Eighths) -> Option<Eighths>
+    requires { length hint.now ≡ (setting_of mv.now).instance.market.assets }
+{
+    let root = mv.root();
+    if !root.count_within(mv.held(), mv.held_most()) {
+        return None;
+    }
+    if is_open_above(mv, &root) && is_open_below(mv, &root) {
+        Some(tangent_point(mv, &root, hint))
+    } else {
+        None
+    }
+}
+
+/// The tangent point of the two assets' root from a hint, under the weight `p/2`.
+fn point_from(
+    alloc: Global,
+    fewest: u16,
+    p: u8,
+    hint: (u32, u32),
+) -> Result<Option<(u32, u32)>, OutOfMemory>
+    requires least { 1 ≤ fewest }
+    requires most { fewest ≤ 2 }
+    requires weight { p ≤ 2 }
+{
+    let inst = two_assets(alloc, fewest)?;
+    let shift = Shift::zero(alloc, 2)?;
+    if dominant(&inst, &shift).is_some() {
+        return Ok(None);
+    }
+    let mv = MeanVariance::new(&inst, &shift, Weight { p, q: 2 });
+    let mut y = Eighths::zeros(2);
+    y.set(0, hint.0);
+    y.set(1, hint.1);
+    match root_point(&mv, &y) {
+        Some(point) if point.len() == 2 => Ok(Some((point.get(0), point.get(1)))),
+        _ => Ok(None),
+    }
+}
+
+#[test]
+fn tangent_points_of_two_assets(rt: HostRuntime) -> Result<(), Fail> {
+    let alloc = rt.alloc();
+    for hint in [(64, 16), (80, 0), (0, 0), (0, 80), (40, 40), (200, 7)] {
+        // for return alone both are held, or the better one alone
+        assert_eq!(rt; point_from(alloc, 2, 0, hint)?, Some((8, 72)));
+        assert_eq!(rt; point_from(alloc, 1, 0, hint)?, Some((0, 80)));
+        assert_eq!(rt; point_from(alloc, 2, 1, hint)?, Some((63, 17)));
+        assert_eq!(rt; point_from(alloc, 1, 1, hint)?, Some((63, 17)));
+        // for risk alone the shares are as 4 to 1
+        assert_eq!(rt; point_from(alloc, 2, 2, hint)?, Some((64, 16)));
+        assert_eq!(rt; point_from(alloc, 1, 2, hint)?, Some((64, 16)));
+    }
     Ok(())
 }

@@ -10,6 +10,7 @@ use gap_base::OutOfMemory;
 use gap_job::JobFault;
 use gap_model::CertFault;
 use gap_orlib::PortFault;
+use gap_verify::Difference;
 use std::alloc::Global;
 
 /// Why nothing was done.
@@ -17,8 +18,6 @@ use std::alloc::Global;
 pub enum Refusal {
     /// The words are in the form of no command.
     Words,
-    /// They ask for what isn't built.
-    NotBuilt,
     /// The port file is no market.
     Port(PortFault),
     /// The job file is no job for the market.
@@ -27,6 +26,8 @@ pub enum Refusal {
     HeldRange,
     /// The certificate isn't valid.
     Certificate(CertFault),
+    /// The certificate isn't of the market and the job.
+    Differs(Difference),
 }
 
 impl Refusal {
@@ -39,11 +40,11 @@ impl Refusal {
                 alloc,
                 "usage: portgap quick PORT HELD LOTS P Q NODES | solve PORT JOB CERT | check CERT | verify PORT JOB CERT | demo NUMBER N HELD LOTS NODES\n",
             )?),
-            Refusal::NotBuilt => Ok(String::from_str(alloc, "notbuilt\n")?),
             Refusal::Port(fault) => port_line(alloc, fault),
             Refusal::Job(fault) => job_line(alloc, fault),
             Refusal::HeldRange => keyed_line(alloc, "Range", "held"),
             Refusal::Certificate(fault) => cert_line(alloc, fault),
+            Refusal::Differs(difference) => difference.line(alloc),
         }
     }
 
@@ -53,10 +54,10 @@ impl Refusal {
     {
         match self {
             Refusal::Words => 2,
-            Refusal::NotBuilt => 9,
             Refusal::Port(_) => 5,
             Refusal::Job(_) | Refusal::HeldRange => 6,
             Refusal::Certificate(_) => 7,
+            Refusal::Differs(_) => 8,
         }
     }
 }

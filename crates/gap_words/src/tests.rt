@@ -6,6 +6,7 @@ use gap_instance::Broken;
 use gap_job::{JobFault, Key};
 use gap_model::{CertFault, CertKind};
 use gap_orlib::{PortFault, PortKind};
+use gap_verify::{Difference, Field, Said};
 use std::alloc::{AllocError, Global};
 use std::test::Fail;
 
@@ -210,7 +211,6 @@ fn says_why_nothing_was_done(rt: HostRuntime) -> Result<(), Fail> {
             2,
             "usage: portgap quick PORT HELD LOTS P Q NODES | solve PORT JOB CERT | check CERT | verify PORT JOB CERT | demo NUMBER N HELD LOTS NODES\n",
         ),
-        (Refusal::NotBuilt, 9, "notbuilt\n"),
         (
             Refusal::Port(PortFault {
                 place: 24,
@@ -246,6 +246,15 @@ fn says_why_nothing_was_done(rt: HostRuntime) -> Result<(), Fail> {
             Refusal::Job(JobFault::Asset(Key::Limits)),
             6,
             "job Asset limits\n",
+        ),
+        (
+            Refusal::Differs(Difference {
+                field: Field::Greatest(1),
+                found: Said::Number(10),
+                wanted: Said::Number(9),
+            }),
+            8,
+            "differs greatest 2 10 9\n",
         ),
     ];
     for (refusal, status, line) in rows {

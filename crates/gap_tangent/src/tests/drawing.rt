@@ -24,7 +24,7 @@ pub(crate) fn drawn(seed: u32, place: u16, most: u32) -> u32
 }
 
 /// A number of `low` to `high`.
-fn lots_between(seed: u32, place: u16, low: u16, high: u16) -> u16
+pub(crate) fn lots_between(seed: u32, place: u16, low: u16, high: u16) -> u16
     requires order { low ≤ high }
     requires high { high ≤ 10000 }
     ensures low { low ≤ result }
@@ -48,14 +48,15 @@ fn between(seed: u32, n: u16, low: u16, high: u16) -> Lots
     list
 }
 
-/// A job for `n` assets with drawn limits.
-fn job_of(seed: u32, n: u16, lots: u16, held: u16, turnover: Option<u32>) -> Job
+/// A job for `n` assets, of which `held.0` to `held.1` are held, with drawn limits.
+fn job_of(seed: u32, n: u16, lots: u16, held: (u16, u16), turnover: Option<u32>) -> Job
     requires least { 2 ≤ n }
     requires most { n ≤ 256 }
     requires lots_least { 1 ≤ lots }
     requires lots_most { lots ≤ 10000 }
-    requires held_least { 1 ≤ held }
-    requires held_most { held ≤ n }
+    requires held_least { 1 ≤ held.0 }
+    requires held_order { held.0 ≤ held.1 }
+    requires held_most { held.1 ≤ n }
     requires turnover { ForSome turnover (λ t. t ≤ 3000000) }
     ensures limits { AreLimits n result.lots result.held result.held_most result.least result.greatest result.present result.turnover }
     ensures lots { result.lots ≡ lots }
@@ -63,8 +64,8 @@ fn job_of(seed: u32, n: u16, lots: u16, held: u16, turnover: Option<u32>) -> Job
 {
     Job {
         lots,
-        held,
-        held_most: held,
+        held: held.0,
+        held_most: held.1,
         least: between(seed, n, 1, lots),
         greatest: between(seed.wrapping_add(1), n, 1, lots),
         present: between(seed.wrapping_add(2), n, 0, 4),
@@ -91,21 +92,22 @@ fn set_asset(market: &mut Market, seed: u32, i: u16)
     }
 }
 
-/// A drawn instance of `n` assets.
+/// A drawn instance of `n` assets, of which `held.0` to `held.1` are held.
 pub(crate) fn instance(
     alloc: Global,
     seed: u32,
     n: u16,
     lots: u16,
-    held: u16,
+    held: (u16, u16),
     turnover: Option<u32>,
 ) -> Result<Instance, OutOfMemory>
     requires least { 2 ≤ n }
     requires most { n ≤ 256 }
     requires lots_least { 1 ≤ lots }
     requires lots_most { lots ≤ 10000 }
-    requires held_least { 1 ≤ held }
-    requires held_most { held ≤ n }
+    requires held_least { 1 ≤ held.0 }
+    requires held_order { held.0 ≤ held.1 }
+    requires held_most { held.1 ≤ n }
     requires turnover { ForSome turnover (λ t. t ≤ 3000000) }
     ensures assets { IfOk result (λ inst. inst.market.assets ≡ n) }
     ensures lots { IfOk result (λ inst. inst.lots ≡ lots) }

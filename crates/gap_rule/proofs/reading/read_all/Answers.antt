@@ -1,6 +1,6 @@
 use Rattle.std.proofs.Common.{arith, ◌+◌, ◌∙◌, ap, Ok, Err}
 use Rattle.gap_files.specs.Outside.{bytes_of}
-use Rattle.gap_rule.proofs.ReadingLaws.{any_cause, cause_later, says_stop, reads_on, fed_whole}
+use Rattle.gap_rule.proofs.ReadingLaws.{any_cause, cause_later, says_stop, reads_on, fed_whole, was_said}
 use Rattle.gap_rule.proofs.reading.read_all.Goals as goal
 
 pub returns-in-Ok-eq0-clause-told : goal.returns-in-Ok-eq0-clause-told
@@ -9,6 +9,9 @@ returns-in-Ok-eq0-clause-told g c = λ held told.
     let fed = c.in-Ok-eq0.ensures.fed held now (c.loop-turn.invariant.fed held told) in
     let ends = c.read_piece.ensures.end held now (c.in-Ok-eq0.is ∙ ap Ok c.in-Ok-eq0.field-0-test) in
     c.finish.ensures.told (bytes_of held) (fed_whole (bytes_of held) (c.loop-turn.at + c.in-Ok-eq0.field-0) _ fed (omega arith))
+
+pub returns-in-Ok-eq0-clause-was : goal.returns-in-Ok-eq0-clause-was
+returns-in-Ok-eq0-clause-was g c = was_said _ _ g.C.Consumer.said c.finish.result (c.in-Ok-eq0.ensures.grown c.loop-turn.invariant.was) c.finish.ensures.told
 
 pub returns-in-Ok-eq0-clause-cause : goal.returns-in-Ok-eq0-clause-cause
 returns-in-Ok-eq0-clause-cause g c = any_cause _ c.finish.result c.finish.ensures.stop

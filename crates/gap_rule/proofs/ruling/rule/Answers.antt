@@ -1,3 +1,4 @@
+use Rattle.gap_rule.proofs.RuleLaws.{fits_demo}
 use Rattle.gap_rule.proofs.ruling.rule.Goals as goal
 
 pub returns-in-Solve-clause-ruled : goal.returns-in-Solve-clause-ruled
@@ -5,3 +6,6 @@ returns-in-Solve-clause-ruled g c = rw (c.in-Solve.is) (c.rule_solve.ensures.rul
 
 pub returns-in-Solve-clause-fits : goal.returns-in-Solve-clause-fits
 returns-in-Solve-clause-fits g c = rw (c.in-Solve.is) (c.rule_solve.ensures.fits c.in-Solve.cert.now)
+
+pub returns-in-Demo-clause-fits : goal.returns-in-Demo-clause-fits
+returns-in-Demo-clause-fits g c = rw (c.in-Demo.is) (fits_demo c.in-Demo.asked c.rule_demo.result c.rule_demo.ensures.halts c.rule_demo.ensures.ready)
