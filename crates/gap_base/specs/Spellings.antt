@@ -14,7 +14,8 @@ IsFraction digits text = (text ≡ 46 ∷ digits) ⊎ ((text ≡ []) × (digits 
 -- `e` (101) or `E` (69), a sign or none, and one digit or more; or nothing
 pub data IsPower (power : Power) (text : List ℕ) : Type 0 where
   none : power.lowers ≡ false → power.digits ≡ [] → text ≡ [] → IsPower power text
-  some : (mark : ℕ) (sign : List ℕ) → (mark ≡ 101) ⊎ (mark ≡ 69) → IsSign power.lowers sign → 1 ≤ length power.digits → AreDigits power.digits
+  some : (mark : ℕ) (sign : List ℕ) → (mark ≡ 101) ⊎ (mark ≡ 69) → IsSign power.lowers sign → 1 ≤ length power.digits
+      → AreDigits power.digits
       → text ≡ mark ∷ (sign ++ power.digits) → IsPower power text
 
 -- a text spells the parts of a numeral: a sign or none, digits, a point and digits, and an exponent or none; one digit at

@@ -144,7 +144,8 @@ impl Market {
         ensures value { self.new ≡ with_rho self.old i j v }
         ensures one_way { rho_of self.new i j ≡ v }
         ensures other_way { rho_of self.new j i ≡ v }
-        ensures others { (a b : ℕ) → a < self.old.assets → b < self.old.assets → (a ≢ i) ⊎ (b ≢ j) → (a ≢ j) ⊎ (b ≢ i) → rho_of self.new a b ≡ rho_of self.old a b }
+        ensures others { (a b : ℕ) → a < self.old.assets → b < self.old.assets → (a ≢ i) ⊎ (b ≢ j) → (a ≢ j) ⊎ (b ≢ i)
+            → rho_of self.new a b ≡ rho_of self.old a b }
     {
         let count = usize::from(self.assets);
         let first = usize::from(i) * count + usize::from(j);

@@ -42,4 +42,5 @@ asset_of (Cut i t) = i
 
 -- what a side of a split leaves of a part: only the cell of its asset is made smaller
 abbrev pub narrowed : List Cell → Split → Side → List Cell
-narrowed cells split side = slice_set cells (asset_of split) (narrow_cell split (slice_index_or cells (asset_of split) Out) side)
+narrowed cells split side =
+    slice_set cells (asset_of split) (narrow_cell split (slice_index_or cells (asset_of split) Out) side)

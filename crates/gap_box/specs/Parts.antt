@@ -59,7 +59,8 @@ pub record AreLimits (limits : List ℕ) : Type 0 where
   pub least : (k : ℕ) → k < length limits → 1 ≤ slice_index_or limits k 0
   pub most : (k : ℕ) → slice_index_or limits k 0 ≤ 10000
 
--- the cell of an asset that may have 0 or its least to its greatest number of lots; only 0 where the least is above the greatest
+-- the cell of an asset that may have 0 or its least to its greatest number of lots; only 0 where the least is above
+-- the greatest
 abbrev pub root_cell : ℕ → ℕ → Cell
 root_cell least greatest = cond (ltb greatest least) Out (Free least greatest)
 

@@ -7,5 +7,6 @@ ghost use Rattle.gap_box.specs.Parts.{can_meet, IsPick};
 
 /// The count of a part can be met exactly where some list of the part meets it.
 pub fn count_is_met()
-    ensures { (cells : List Cell) (fewest most : ℕ) → AreCells cells → fewest ≤ most → (can_meet cells fewest most ≡ true) ↔ ((x : List ℕ) × IsPick cells fewest most x) }
+    ensures { (cells : List Cell) (fewest most : ℕ) → AreCells cells → fewest ≤ most
+        → (can_meet cells fewest most ≡ true) ↔ ((x : List ℕ) × IsPick cells fewest most x) }
 {}

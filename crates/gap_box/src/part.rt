@@ -97,8 +97,12 @@ impl Part {
         requires { IsTrue (lawful_split self.now split) }
         ensures cells { result ≡ child_cells self.now split side }
         ensures valid { AreCells result }
-        ensures once { (x : List ℕ) → indicator (in_part self.now x) ≡ indicator (in_part (child_cells self.now split First) x) + indicator (in_part (child_cells self.now split Second) x) }
-        ensures sum { points self.now ≡ points (child_cells self.now split First) + points (child_cells self.now split Second) }
+        ensures once { (x : List ℕ)
+            → indicator (in_part self.now x)
+            ≡ indicator (in_part (child_cells self.now split First) x)
+            + indicator (in_part (child_cells self.now split Second) x) }
+        ensures sum { points self.now
+            ≡ points (child_cells self.now split First) + points (child_cells self.now split Second) }
         ensures within { IsWithin result self.now }
     {
         // each cell is in range

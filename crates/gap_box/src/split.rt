@@ -1,6 +1,7 @@
 //! Splits of a part into two children.
 
-/// How a part is split at an asset, named by its place from 0: by whether it is held, or by its lots, up to a number or above it.
+/// How a part is split at an asset, named by its place from 0: by whether it is held, or by its lots, up to a number
+/// or above it.
 #[derive(Clone, Copy, PartialEq, Eq, Debug)]
 pub enum Split {
     Held(u16),

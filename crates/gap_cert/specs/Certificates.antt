@@ -88,7 +88,8 @@ claim_number (unfound bound overall) = 4
 abbrev pub claim_fields : CertClaim → List Field
 claim_fields (closed best overall) = field.Portfolio best.lots ∷ field.Objective best.value ∷ field.Overall overall ∷ []
 claim_fields none = []
-claim_fields (open_at best bound overall) = field.Portfolio best.lots ∷ field.Objective best.value ∷ field.Bound bound ∷ field.Overall overall ∷ []
+claim_fields (open_at best bound overall) =
+    field.Portfolio best.lots ∷ field.Objective best.value ∷ field.Bound bound ∷ field.Overall overall ∷ []
 claim_fields (unfound bound overall) = field.Bound bound ∷ field.Overall overall ∷ []
 
 -- the claim that an outcome makes
@@ -117,7 +118,8 @@ asset_field a = field.Asset a.mean a.dev a.least a.greatest a.present
 -- the items of a head
 unfoldable pub head_fields : CertHead → List Field
 head_fields h =
-    field.Head h.n h.lots h.held h.held_most h.turnover h.nodes ∷ (map asset_field h.assets ++ map field.Correlation h.correlations
+    field.Head h.n h.lots h.held h.held_most h.turnover h.nodes
+    ∷ (map asset_field h.assets ++ map field.Correlation h.correlations
     ++ map field.FactorEntry h.factor ++ map field.ShiftEntry h.diagonal)
 
 -- the items of a certificate in order

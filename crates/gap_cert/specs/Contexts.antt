@@ -53,7 +53,8 @@ turnover_format next = natural 1 Range 0 1 (λ flag. turnover_when flag next)
 -- the numbers of a head behind the number of assets to hold
 unfoldable pub head_end : Version → (n lots held held_most : ℕ) → Option ℕ → Format
 head_end version n lots held held_most turnover =
-    natural 4 Range 0 100000 (λ nodes. says (record { version = version; field = field.Head n lots held held_most turnover nodes }))
+    natural 4 Range 0 100000 (λ nodes. says
+    (record { version = version; field = field.Head n lots held held_most turnover nodes }))
 
 unfoldable pub head_limits : Version → (n lots held held_most : ℕ) → Format
 head_limits version n lots held held_most = turnover_format (head_end version n lots held held_most)
@@ -68,8 +69,10 @@ head_format = mark_format mark (natural 1 Magic 49 50 (λ b. head_numbers (versi
 
 unfoldable pub asset_format : Version → ℕ → Format
 asset_format version lots =
-    sized 4 most_millionths (λ mean. natural 4 Range 0 most_millionths (λ dev. natural 2 Range 1 lots (λ least. natural 2 Range 1 lots (λ greatest.
-    natural 2 Range 0 most_lots (λ present. says (record { version = version; field = field.Asset mean dev least greatest present }))))))
+    sized 4 most_millionths (λ mean. natural 4 Range 0 most_millionths
+    (λ dev. natural 2 Range 1 lots (λ least. natural 2 Range 1 lots (λ greatest.
+    natural 2 Range 0 most_lots (λ present. says
+    (record { version = version; field = field.Asset mean dev least greatest present }))))))
 
 unfoldable pub start_format : Version → Format
 start_format version =
@@ -123,7 +126,8 @@ witness_format n lots turnover next = natural 2 Range 0 n (eighths_format n lots
 -- the whole root
 unfoldable pub witness_end : Context → Bool → ℕ → Witness → Format
 witness_end c true count w =
-    guard (not (repeated c.version c.last w)) (35 + 6 * count) Range (says (record { version = c.version; field = field.TangentLeaf w }))
+    guard (not (repeated c.version c.last w)) (35 + 6 * count) Range
+    (says (record { version = c.version; field = field.TangentLeaf w }))
 witness_end c false count w = says (record { version = c.version; field = field.Overall (Some w) })
 
 -- a witness, as a tangent leaf or for the whole root
@@ -143,7 +147,8 @@ node_most One = 5
 node_most Two = 6
 
 unfoldable pub void_format : Context → Format
-void_format c = multipliers_format c.turnover (λ alpha tau. says (record { version = c.version; field = field.VoidLeaf alpha tau }))
+void_format c =
+    multipliers_format c.turnover (λ alpha tau. says (record { version = c.version; field = field.VoidLeaf alpha tau }))
 
 -- a tangent leaf isn't in a section without portfolios
 unfoldable pub tangent_format : Context → Format
@@ -154,7 +159,8 @@ again_format version None = guard false 1 Range (says (record { version = versio
 again_format version (Some w) = says (record { version = version; field = field.TangentLeaf w })
 
 unfoldable pub held_format : Context → Format
-held_format c = natural 2 Range 1 c.n (λ asset. says (record { version = c.version; field = field.Split (Held (asset - 1)) }))
+held_format c =
+    natural 2 Range 1 c.n (λ asset. says (record { version = c.version; field = field.Split (Held (asset - 1)) }))
 
 unfoldable pub lots_split_format : Context → Format
 lots_split_format c =
@@ -178,10 +184,13 @@ node_format c = natural 1 Range 1 (node_most c.version) (λ b. node_behind c b)
 abbrev pub format_of : Context → Phase → Format
 format_of c phase.Head = head_format
 format_of c phase.Assets = asset_format c.version c.lots
-format_of c phase.Correlations = sized 4 most_millionths (λ rho. says (record { version = c.version; field = field.Correlation rho }))
+format_of c phase.Correlations =
+    sized 4 most_millionths (λ rho. says (record { version = c.version; field = field.Correlation rho }))
 format_of c phase.Factor = sized 8 most_factor (λ r. says (record { version = c.version; field = field.FactorEntry r }))
-format_of c phase.Diagonal = signed 16 (pos 0) (pos most_diagonal) (λ d. says (record { version = c.version; field = field.ShiftEntry d }))
-format_of c phase.Sections = natural 1 Range 1 101 (λ count. says (record { version = c.version; field = field.Sections count }))
+format_of c phase.Diagonal =
+    signed 16 (pos 0) (pos most_diagonal) (λ d. says (record { version = c.version; field = field.ShiftEntry d }))
+format_of c phase.Sections =
+    natural 1 Range 1 101 (λ count. says (record { version = c.version; field = field.Sections count }))
 format_of c phase.Section = start_format c.version
 format_of c phase.Portfolio = portfolio_format c.version c.n c.held c.held_most
 format_of c phase.Objective = any_signed (λ value. says (record { version = c.version; field = field.Objective value }))
@@ -207,7 +216,9 @@ behind_leaf c =
     else record c { left = c.left - 1 }
 
 abbrev pub behind_start : Context → ℕ → Context
-behind_start c outcome = if outcome == 2 then enters c phase.Node 1 else (if outcome == 4 then enters c phase.Bound 1 else enters c phase.Portfolio 1)
+behind_start c outcome =
+    if outcome == 2 then enters c phase.Node 1
+    else (if outcome == 4 then enters c phase.Bound 1 else enters c phase.Portfolio 1)
 
 abbrev pub behind_objective : Context → Context
 behind_objective c = if c.outcome == 3 then enters c phase.Bound 1 else enters c phase.Overall 1
@@ -256,7 +267,8 @@ start = record {
 unfoldable pub Runs : Context → List Group → Context → List ℕ → Type 0
 Runs c [] end bytes = (c ≡ end) × (bytes ≡ [])
 Runs c (group ∷ groups) end bytes =
-    (front : List ℕ) × (more : List ℕ) × Spells (format_of c c.phase) group front × Runs (after c group) groups end more × (bytes ≡ front ++ more)
+    (front : List ℕ) × (more : List ℕ) × Spells (format_of c c.phase) group front
+    × Runs (after c group) groups end more × (bytes ≡ front ++ more)
 
 -- what a context keeps: the ranges of the head's numbers
 pub record IsContext (c : Context) : Type 0 where
@@ -268,7 +280,8 @@ pub record IsContext (c : Context) : Type 0 where
 
 -- the numbers of a head are in their ranges, and a split speaks of one of at most 256 assets
 abbrev pub IsFieldIn : Field → Type 0
-IsFieldIn (field.Head n lots held held_most turnover nodes) = (2 ≤ n) × (n ≤ 256) × (lots ≤ 10000) × (held ≤ 256) × (held_most ≤ 256)
+IsFieldIn (field.Head n lots held held_most turnover nodes) =
+    (2 ≤ n) × (n ≤ 256) × (lots ≤ 10000) × (held ≤ 256) × (held_most ≤ 256)
 IsFieldIn (field.Split split) = asset_of split < 256
 IsFieldIn _ = Unit {0}
 

@@ -15,7 +15,8 @@ use Rattle.gap_cert.specs.Bytes.{be, signed_be}
 -- the bytes of entries of a list: for each number that isn't 0 its asset, from 1 on, and then the number in a width
 unfoldable pub entry_bytes : ℕ → ℕ → List ℕ → List ℕ
 entry_bytes width asset [] = []
-entry_bytes width asset (v ∷ x) = cond (nat_lt 0 v) ((be 2 asset ++ be width v) ++ entry_bytes width (suc asset) x) (entry_bytes width (suc asset) x)
+entry_bytes width asset (v ∷ x) =
+    cond (nat_lt 0 v) ((be 2 asset ++ be width v) ++ entry_bytes width (suc asset) x) (entry_bytes width (suc asset) x)
 
 -- the bytes of a witness: how many entries it has, its entries, alpha and tau
 abbrev pub witness_bytes : Witness → List ℕ
@@ -83,8 +84,10 @@ split_bytes (Lots i t) = be 1 5 ++ be 2 (suc i) ++ be 2 t
 -- the bytes of a group, by its version and the witness of the last tangent leaf before it in its tree
 abbrev pub bytes_of : Version → Option Witness → Field → List ℕ
 bytes_of version last (field.Head n lots held held_most turnover nodes) =
-    (mark_bytes mark ++ be 1 (version_byte version)) ++ be 2 n ++ be 2 lots ++ be 2 held ++ held_most_bytes version held_most ++ turnover_bytes turnover ++ be 4 nodes
-bytes_of version last (field.Asset mean dev least greatest present) = signed_be 4 mean ++ be 4 dev ++ be 2 least ++ be 2 greatest ++ be 2 present
+    (mark_bytes mark ++ be 1 (version_byte version)) ++ be 2 n ++ be 2 lots ++ be 2 held
+    ++ held_most_bytes version held_most ++ turnover_bytes turnover ++ be 4 nodes
+bytes_of version last (field.Asset mean dev least greatest present) =
+    signed_be 4 mean ++ be 4 dev ++ be 2 least ++ be 2 greatest ++ be 2 present
 bytes_of version last (field.Correlation rho) = signed_be 4 rho
 bytes_of version last (field.FactorEntry r) = signed_be 8 r
 bytes_of version last (field.ShiftEntry d) = signed_be 16 d

@@ -82,7 +82,8 @@ unfoldable pub signed_at : ℕ → ℤ → ℤ → Spot → Result (ℤ × Spot)
 signed_at width least greatest s =
     if nat_lt (length s.rest) width
     then Err More
-    else (if int_le least (signed_from width (value_of (take width s.rest))) && int_le (signed_from width (value_of (take width s.rest))) greatest
+    else (if int_le least (signed_from width (value_of (take width s.rest)))
+    && int_le (signed_from width (value_of (take width s.rest))) greatest
     then Ok (signed_from width (value_of (take width s.rest)), behind width s)
     else Err (fault_here Range s))
 

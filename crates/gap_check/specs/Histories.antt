@@ -35,7 +35,8 @@ pub record IsFaultIn (fed : List ℕ) (f : CertFault) : Type 0 where
   pub items : HasJudged fed scan progress
   pub found :
       ((next_of scan).answer ≡ Err f)
-      ⊎ ((item : Item) × ((next_of scan).answer ≡ Ok (Some item)) × IsItemFault progress item.field item.place (next_of scan).stands.place f)
+      ⊎ ((item : Item) × ((next_of scan).answer ≡ Ok (Some item))
+      × IsItemFault progress item.field item.place (next_of scan).stands.place f)
 
 -- the bytes end inside the certificate: no fault is decided, and the end mark didn't come
 pub record IsCutOff (fed : List ℕ) (f : CertFault) : Type 0 where

@@ -1,4 +1,5 @@
--- What the items so far say by the grammar: which numbers are in their ranges, and how many of each kind came. Own to portgap.
+-- What the items so far say by the grammar: which numbers are in their ranges, and how many of each kind came. Own to
+-- portgap.
 
 use Rattle.std.specs.Prelude.{◌≡◌, ◌≢◌, ℕ, ◌+◌, ◌-◌, ◌*◌, ◌/◌, ◌<◌, ◌≤◌, ◌⊎◌, true, false, List, [], ◌∷◌, length, All, Option, Some, None, ℤ, unsigned_abs, sum}
 use Rattle.std.specs.Option.{ForSome}
@@ -115,7 +116,8 @@ IsStage phase.Section c p = IsWholeAt c p.head
 IsStage phase.Portfolio c p = IsOpening c p × ((p.outcome ≡ 1) ⊎ (p.outcome ≡ 3)) × (p.best ≡ None)
 IsStage phase.Objective c p = IsOpening c p × ((p.outcome ≡ 1) ⊎ (p.outcome ≡ 3)) × MeetsLimits (instance_in p.head) p.lots
 IsStage phase.Bound c p = IsOpening c p × (((p.outcome ≡ 3) × HasBest p) ⊎ ((p.outcome ≡ 4) × (p.best ≡ None)))
-IsStage phase.Overall c p = IsOpening c p × (((p.outcome ≡ 1) × HasBest p) ⊎ (((p.outcome ≡ 3) × HasBest p) ⊎ ((p.outcome ≡ 4) × (p.best ≡ None))))
+IsStage phase.Overall c p =
+    IsOpening c p × (((p.outcome ≡ 1) × HasBest p) ⊎ (((p.outcome ≡ 3) × HasBest p) ⊎ ((p.outcome ≡ 4) × (p.best ≡ None))))
 IsStage phase.Node c p = IsNodeAt c p
 IsStage phase.End c p = IsWholeAt c p.head
 IsStage phase.Over c p = IsWholeAt c p.head

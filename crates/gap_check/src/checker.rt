@@ -81,9 +81,11 @@ impl Checker {
     /// feed answered it.
     pub fn finish(self) -> Result<Verdict, CertStop>
         ensures yes { (fed : List ℕ) → HasRead self fed → IfOk result (Accepted fed) }
-        ensures all { (fed : List ℕ) (v : VerdictValue) → HasRead self fed → Accepted fed v → (result ≡ Ok v) ⊎ (result ≡ Err CertStop.OutOfMemory) }
+        ensures all { (fed : List ℕ) (v : VerdictValue) → HasRead self fed → Accepted fed v
+            → (result ≡ Ok v) ⊎ (result ≡ Err CertStop.OutOfMemory) }
         ensures bound { (fed : List ℕ) → HasRead self fed → IfOk result (λ v. All (IsToldRight v.instance) v.sections) }
-        ensures faults { (fed : List ℕ) (f : CertFault) → HasRead self fed → result ≡ Err (CertStop.Fault f) → IsFaultOf fed f }
+        ensures faults { (fed : List ℕ) (f : CertFault) → HasRead self fed → result ≡ Err (CertStop.Fault f)
+            → IsFaultOf fed f }
         ensures memory { result ≡ Err CertStop.OutOfMemory → self ≡ no_memory }
     {
         let Checker {

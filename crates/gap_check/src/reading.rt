@@ -48,7 +48,8 @@ pub(crate) fn read_piece(
 ) -> Result<(), CertStop>
     requires { IsGoing scanner.old judge.old fed.old }
     ensures going { OnOk result (IsGoing scanner.new judge.new fed.new) }
-    ensures reads { (seen : List ℕ) → HasJudged seen scanner.old judge.old → Reads result (seen ++ piece.now) scanner.new judge.new }
+    ensures reads { (seen : List ℕ) → HasJudged seen scanner.old judge.old
+        → Reads result (seen ++ piece.now) scanner.new judge.new }
 {
     let size = piece.len() as u64;
     if MOST_BYTES - *fed < size {

@@ -23,14 +23,17 @@ pub record IsBranch (p : Problem) (part : List Cell) (leaf : Leaf) (split : Spli
 
 -- from some nodes on, a guide was followed: each split was there before or is allowed at its part, each leaf was there
 -- before or fits its part, and the parts of the nodes from before are what they were
-pub record IsFollowed (allows : List Cell → Split → Type 0) (fits : List Cell → Leaf → Type 0) (old new : List Node) : Type 0 where
-  pub splits : (n : ℕ) (split : Split) → split_at new n ≡ Some split → (split_at old n ≡ Some split) ⊎ allows (part_at new n) split
+pub record IsFollowed (allows : List Cell → Split → Type 0) (fits : List Cell → Leaf → Type 0)
+    (old new : List Node) : Type 0 where
+  pub splits : (n : ℕ) (split : Split) → split_at new n ≡ Some split
+      → (split_at old n ≡ Some split) ⊎ allows (part_at new n) split
   pub leaves : (n : ℕ) (leaf : Leaf) → leaf_at new n ≡ Some leaf → (leaf_at old n ≡ Some leaf) ⊎ fits (part_at new n) leaf
   pub parts : (n : ℕ) → n < length old → part_at new n ≡ part_at old n
   pub more : length old ≤ length new
 
 -- a board went on to another by steps of the search alone, and a guide was followed
-pub record IsDriven (p : Problem) (allows : List Cell → Split → Type 0) (fits : List Cell → Leaf → Type 0) (old new : Board) : Type 0 where
+pub record IsDriven (p : Problem) (allows : List Cell → Split → Type 0) (fits : List Cell → Leaf → Type 0)
+    (old new : Board) : Type 0 where
   pub events : List Event
   pub run : Run p old events new
   pub followed : IsFollowed allows fits old.nodes new.nodes

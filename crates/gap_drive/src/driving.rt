@@ -22,10 +22,12 @@ pub fn drive<'a, B: NodeBound, G: Guide<'a, B>>(
 ) -> Result<(), OutOfMemory>
     requires { tickets search.old.board.held ≡ 0 }
     ensures same { IsSame search.old search.new }
-    ensures driven { IsDriven (B.problem search.old.bound) (G.allows search.old.bound) (G.fits search.old.bound) search.old.board search.new.board }
+    ensures driven { IsDriven (B.problem search.old.bound) (G.allows search.old.bound) (G.fits search.old.bound)
+        search.old.board search.new.board }
     ensures sound { IsSound (B.problem search.old.bound) search.new.board }
     ensures idle { tickets search.new.board.held ≡ 0 }
-    ensures refused { IfOk result (λ _. (w : ℕ) → w < search.new.workers → Refusal (B.problem search.new.bound) search.new.board w) }
+    ensures refused { IfOk result
+        (λ _. (w : ℕ) → w < search.new.workers → Refusal (B.problem search.new.bound) search.new.board w) }
 {
     let mut more = claim_all(search);
     while more {

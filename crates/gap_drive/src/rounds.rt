@@ -24,7 +24,9 @@ fn claim_next<B: NodeBound>(search: &mut Search<'_, B>, worker: u8, some: bool) 
     ensures nodes { search.new.board.nodes ≡ search.old.board.nodes }
     ensures run { (events : List Event) × Run (B.problem search.old.bound) search.old.board events search.new.board }
     ensures some { result ≡ true → (some ≡ true → 0 < tickets search.old.board.held) → 0 < tickets search.new.board.held }
-    ensures none { result ≡ false → (some ≡ false) × (search.new.board ≡ search.old.board) × Refusal (B.problem search.old.bound) search.old.board worker }
+    ensures none { result ≡ false
+        → (some ≡ false) × (search.new.board ≡ search.old.board)
+        × Refusal (B.problem search.old.bound) search.old.board worker }
 {
     // a worker is one of 16
     let _workers = search.workers();
@@ -42,7 +44,9 @@ pub fn claim_all<B: NodeBound>(search: &mut Search<'_, B>) -> bool
     ensures nodes { search.new.board.nodes ≡ search.old.board.nodes }
     ensures run { (events : List Event) × Run (B.problem search.old.bound) search.old.board events search.new.board }
     ensures some { result ≡ true → 0 < tickets search.new.board.held }
-    ensures none { result ≡ false → (tickets search.new.board.held ≡ 0) × ((w : ℕ) → w < search.old.workers → Refusal (B.problem search.old.bound) search.new.board w) }
+    ensures none { result ≡ false
+        → (tickets search.new.board.held ≡ 0)
+        × ((w : ℕ) → w < search.old.workers → Refusal (B.problem search.old.bound) search.new.board w) }
 {
     // the board is sound
     let _inner = search.inner();
@@ -64,7 +68,8 @@ fn offer_candidate<'a, B: NodeBound, G: Guide<'a, B>>(
     requires fits { FitsPart (B.problem search.old.bound) part.now leaf.now }
     ensures same { IsSame search.old search.new }
     ensures best { (best : Option Best) × (search.new.board ≡ with_best search.old.board best) }
-    ensures driven { IsDriven (B.problem search.old.bound) (G.allows search.old.bound) (G.fits search.old.bound) search.old.board search.new.board }
+    ensures driven { IsDriven (B.problem search.old.bound) (G.allows search.old.bound) (G.fits search.old.bound)
+        search.old.board search.new.board }
 {
     if let Some(x) = guide.candidate(search.bound(), part, leaf) {
         let _taken = search.offer(&x);
@@ -81,9 +86,12 @@ pub fn settle_next<'a, B: NodeBound, G: Guide<'a, B>>(
     requires worker { worker < 16 }
     requires places { length search.old.board.held ≡ 16 }
     ensures same { IsSame search.old search.new }
-    ensures driven { IsDriven (B.problem search.old.bound) (G.allows search.old.bound) (G.fits search.old.bound) search.old.board search.new.board }
+    ensures driven { IsDriven (B.problem search.old.bound) (G.allows search.old.bound) (G.fits search.old.bound)
+        search.old.board search.new.board }
     ensures held { search.new.board.held ≡ slice_set search.old.board.held worker None }
-    ensures count { IfOk result (λ _. splits_of search.new.board.nodes + tickets search.new.board.held ≡ splits_of search.old.board.nodes + tickets search.old.board.held) }
+    ensures count { IfOk result
+        (λ _. splits_of search.new.board.nodes + tickets search.new.board.held
+        ≡ splits_of search.old.board.nodes + tickets search.old.board.held) }
 {
     // the board is sound
     let _inner = search.inner();
@@ -131,9 +139,13 @@ fn turn<'a, B: NodeBound, G: Guide<'a, B>>(
     requires worker { worker < 16 }
     requires places { length search.old.board.held ≡ 16 }
     ensures same { IsSame search.old search.new }
-    ensures driven { IsDriven (B.problem search.old.bound) (G.allows search.old.bound) (G.fits search.old.bound) search.old.board search.new.board }
+    ensures driven { IsDriven (B.problem search.old.bound) (G.allows search.old.bound) (G.fits search.old.bound)
+        search.old.board search.new.board }
     ensures held { search.new.board.held ≡ slice_set search.old.board.held worker None }
-    ensures count { IfOk result (λ _. (so_far ≡ Ok tt) × (splits_of search.new.board.nodes + tickets search.new.board.held ≡ splits_of search.old.board.nodes + tickets search.old.board.held)) }
+    ensures count { IfOk result
+        (λ _. (so_far ≡ Ok tt)
+        × (splits_of search.new.board.nodes + tickets search.new.board.held
+        ≡ splits_of search.old.board.nodes + tickets search.old.board.held)) }
 {
     match so_far {
         Ok(()) => settle_next(search, guide, worker),
@@ -150,10 +162,12 @@ pub fn settle_all<'a, B: NodeBound, G: Guide<'a, B>>(
     guide: &mut G,
 ) -> Result<(), OutOfMemory>
     ensures same { IsSame search.old search.new }
-    ensures driven { IsDriven (B.problem search.old.bound) (G.allows search.old.bound) (G.fits search.old.bound) search.old.board search.new.board }
+    ensures driven { IsDriven (B.problem search.old.bound) (G.allows search.old.bound) (G.fits search.old.bound)
+        search.old.board search.new.board }
     ensures sound { IsSound (B.problem search.old.bound) search.new.board }
     ensures idle { tickets search.new.board.held ≡ 0 }
-    ensures count { IfOk result (λ _. splits_of search.new.board.nodes ≡ splits_of search.old.board.nodes + tickets search.old.board.held) }
+    ensures count { IfOk result
+        (λ _. splits_of search.new.board.nodes ≡ splits_of search.old.board.nodes + tickets search.old.board.held) }
 {
     // there are 16 places
     let _workers = search.workers();

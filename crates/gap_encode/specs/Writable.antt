@@ -54,7 +54,8 @@ IsSplitOf n (Lots i t) = (i < n) × (t ≤ 65535)
 -- the numbers of a tree are in their ranges
 abbrev pub IsWritableTree : CertHead → CertClaim → CertTree → Type 0
 IsWritableTree h claim (tip leaf) = IsLeafIn (instance_in h) leaf × MayStand claim leaf
-IsWritableTree h claim (fork split first second) = IsSplitOf h.n split × IsWritableTree h claim first × IsWritableTree h claim second
+IsWritableTree h claim (fork split first second) =
+    IsSplitOf h.n split × IsWritableTree h claim first × IsWritableTree h claim second
 
 -- the numbers of a section are in their ranges
 pub record IsWritableSection (h : CertHead) (s : CertSection) : Type 0 where

@@ -18,7 +18,8 @@ pub fn encodings_exist()
 /// A certificate has at most one encoding in a version, and no encoding is a proper front of another one.
 pub fn encodings_are_alone()
     ensures one { (v : Version) (a b : List ℕ) (c : Certificate) → Encodes v a c → Encodes v b c → a ≡ b }
-    ensures front { (v w : Version) (a more : List ℕ) (c d : Certificate) → Encodes v a c → Encodes w (a ++ more) d → more ≡ [] }
+    ensures front { (v w : Version) (a more : List ℕ) (c d : Certificate) → Encodes v a c → Encodes w (a ++ more) d
+        → more ≡ [] }
 {}
 
 /// The numbers of a valid certificate are in their ranges.

@@ -11,7 +11,8 @@ pub record IsLeastStep (short d : ℤ) : Type 0 where
 
 -- a row of the shift needs more than 10^21
 abbrev pub IsTooMuch : (ℕ → ℕ → ℤ) → ShiftValue → Type 0
-IsTooMuch C s = (i : ℕ) × (i < s.assets) × ((d : ℤ) × (IsLeastAt s.assets C (r_of s) i d) × (pos 1000000000000000000000 <ℤ d))
+IsTooMuch C s =
+    (i : ℕ) × (i < s.assets) × ((d : ℤ) × (IsLeastAt s.assets C (r_of s) i d) × (pos 1000000000000000000000 <ℤ d))
 
 -- the rows below i have their least diagonal, the others none yet, and nothing else changed
 pub record AreSet (C : ℕ → ℕ → ℤ) (old new : ShiftValue) (i : ℕ) : Type 0 where

@@ -23,8 +23,11 @@ fn round(inst: &Instance, shift: &mut Shift) -> bool
     ensures assets { shift.new.assets ≡ shift.old.assets }
     ensures rounded { IsTrue result → IsRoundedFactor shift.new.assets (cov_of inst.now.market) (r_of shift.new) }
     ensures least { IsTrue result → AreLeast shift.new.assets (cov_of inst.now.market) (r_of shift.new) (d_of shift.new) }
-    ensures at_most { IsTrue result → total_of shift.new ≤ℤ sum_below shift.new.assets (plain_of shift.new.assets (cov_of inst.now.market)) }
-    ensures refused { IsFalse result → IsBelowRounded shift.new.assets (cov_of inst.now.market) (sum_below shift.new.assets (plain_of shift.new.assets (cov_of inst.now.market))) }
+    ensures at_most { IsTrue result
+        → total_of shift.new ≤ℤ sum_below shift.new.assets (plain_of shift.new.assets (cov_of inst.now.market)) }
+    ensures refused { IsFalse result
+        → IsBelowRounded shift.new.assets (cov_of inst.now.market)
+        (sum_below shift.new.assets (plain_of shift.new.assets (cov_of inst.now.market))) }
 {
     make_factor(inst, shift);
     if !set_diagonal(inst, shift) {
@@ -35,7 +38,9 @@ fn round(inst: &Instance, shift: &mut Shift) -> bool
 
 /// Is the total of the shift at most the one where R is zero?
 fn needs_no_more(inst: &Instance, shift: &Shift) -> bool
-    ensures { IsTrue result ↔ (total_of shift.now ≤ℤ sum_below inst.now.market.assets (plain_of inst.now.market.assets (cov_of inst.now.market))) }
+    ensures { IsTrue result
+        ↔ (total_of shift.now
+        ≤ℤ sum_below inst.now.market.assets (plain_of inst.now.market.assets (cov_of inst.now.market))) }
 {
     shift.total() <= plain_total(inst)
 }
@@ -46,7 +51,8 @@ fn choose(inst: &Instance, shift: &mut Shift)
     requires none { (k : ℕ) → d_of shift.old k ≡ pos 0 }
     ensures assets { shift.new.assets ≡ shift.old.assets }
     ensures least { AreLeast shift.new.assets (cov_of inst.now.market) (r_of shift.new) (d_of shift.new) }
-    ensures plain { (D : ℕ → ℤ) → AreLeast shift.new.assets (cov_of inst.now.market) no_factor D → total_of shift.new ≤ℤ sum_below shift.new.assets D }
+    ensures plain { (D : ℕ → ℤ) → AreLeast shift.new.assets (cov_of inst.now.market) no_factor D
+        → total_of shift.new ≤ℤ sum_below shift.new.assets D }
     ensures rounded { IsAtMostRounded shift.new.assets (cov_of inst.now.market) (total_of shift.new) }
     ensures chosen { IsChosen (cov_of inst.now.market) shift.new }
 {
@@ -69,7 +75,9 @@ pub fn factor(alloc: Global, inst: &Instance) -> Result<Shift, OutOfMemory>
     ensures assets { IfOk result (λ shift. shift.assets ≡ inst.now.market.assets) }
     ensures dominant { IfOk result (λ shift. IsDominantShift (cov_of inst.now.market) shift) }
     ensures least { IfOk result (λ shift. AreLeast shift.assets (cov_of inst.now.market) (r_of shift) (d_of shift)) }
-    ensures plain { IfOk result (λ shift. (D : ℕ → ℤ) → AreLeast shift.assets (cov_of inst.now.market) no_factor D → total_of shift ≤ℤ sum_below shift.assets D) }
+    ensures plain { IfOk result
+        (λ shift. (D : ℕ → ℤ) → AreLeast shift.assets (cov_of inst.now.market) no_factor D
+        → total_of shift ≤ℤ sum_below shift.assets D) }
     ensures rounded { IfOk result (λ shift. IsAtMostRounded shift.assets (cov_of inst.now.market) (total_of shift)) }
     ensures chosen { IfOk result (λ shift. IsChosen (cov_of inst.now.market) shift) }
 {

@@ -85,7 +85,8 @@ fn fill_column(inst: &Instance, shift: &mut Shift, j: u16, root: i64) -> bool
     requires positive { pos 0 <ℤ root }
     requires root_is { root ≡ pos (pivot_root (cov_of inst.now.market) (r_of shift.old) j) }
     ensures kept { SameBeside shift.old shift.new j }
-    ensures filled { IsTrue result → (a : ℕ) → a < shift.old.assets → r_of shift.new a j ≡ wanted (cov_of inst.now.market) (r_of shift.old) j a }
+    ensures filled { IsTrue result → (a : ℕ) → a < shift.old.assets
+        → r_of shift.new a j ≡ wanted (cov_of inst.now.market) (r_of shift.old) j a }
     ensures fit { IsTrue result ↔ (too_large shift.old.assets (cov_of inst.now.market) (r_of shift.old) j ≡ 0) }
 {
     for i in j..shift.n() {
@@ -121,7 +122,8 @@ fn try_column(inst: &Instance, shift: &mut Shift, j: u16) -> bool
     requires same { inst.now.market.assets ≡ shift.old.assets }
     requires column { j < shift.old.assets }
     ensures kept { SameBeside shift.old shift.new j }
-    ensures filled { IsTrue result → (a : ℕ) → a < shift.old.assets → r_of shift.new a j ≡ wanted (cov_of inst.now.market) (r_of shift.old) j a }
+    ensures filled { IsTrue result → (a : ℕ) → a < shift.old.assets
+        → r_of shift.new a j ≡ wanted (cov_of inst.now.market) (r_of shift.old) j a }
     ensures taken { result ≡ takes_column shift.old.assets (cov_of inst.now.market) (r_of shift.old) j }
 {
     let pivot = owed_at(inst, shift, j, j);

@@ -81,7 +81,8 @@ pub fn set_plain(inst: &Instance, shift: &mut Shift)
     requires { inst.now.market.assets ≡ shift.old.assets }
     ensures assets { shift.new.assets ≡ shift.old.assets }
     ensures zero { (a b : ℕ) → a < shift.old.assets → b < shift.old.assets → r_of shift.new a b ≡ pos 0 }
-    ensures plain { (k : ℕ) → k < shift.old.assets → d_of shift.new k ≡ plain_of shift.old.assets (cov_of inst.now.market) k }
+    ensures plain { (k : ℕ) → k < shift.old.assets
+        → d_of shift.new k ≡ plain_of shift.old.assets (cov_of inst.now.market) k }
 {
     for i in 0..shift.n() {
         clear_column(shift, i);

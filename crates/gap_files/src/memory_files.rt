@@ -76,9 +76,12 @@ impl Files for MemoryFiles {
         ensures writes { SameEverywhere (file_writes_failed self.old) (file_writes_failed self.new) }
 
         // As much is read as fits, and it fails only at a numbered call or a missing file, where it never succeeds.
-        ensures copied { IfOk result (λ count. IfSome (held_by self.old name.now) (λ held. Copies held at buf.old buf.new count)) }
-        ensures fails { IsErrOf result Trouble.Failed → IsToFail (calls_to_fail self.old) (calls_begun self.old) ⊎ (held_by self.old name.now ≡ None) }
-        ensures succeeds { OnOk result (¬ (IsToFail (calls_to_fail self.old) (calls_begun self.old)) × IsSome (held_by self.old name.now)) }
+        ensures copied { IfOk result
+            (λ count. IfSome (held_by self.old name.now) (λ held. Copies held at buf.old buf.new count)) }
+        ensures fails { IsErrOf result Trouble.Failed
+            → IsToFail (calls_to_fail self.old) (calls_begun self.old) ⊎ (held_by self.old name.now ≡ None) }
+        ensures succeeds { OnOk result
+            (¬ (IsToFail (calls_to_fail self.old) (calls_begun self.old)) × IsSome (held_by self.old name.now)) }
         ensures calls { calls_begun self.new ≡ next_call (calls_begun self.old) }
         ensures fail { calls_to_fail self.new ≡ calls_to_fail self.old }
     {

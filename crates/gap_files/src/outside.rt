@@ -19,7 +19,8 @@ pub trait Files {
     /// count changes where the call succeeds.
     fn read_at(&mut self, name: &str, at: u64, buf: &mut [u8]) -> Result<usize, Trouble>
         ensures within { IfOk result (λ count. count ≤ length buf.new) }
-        ensures bytes { IfOk result (λ count. ForSome ((files self.old).content name.now) (λ held. ReadsAt (bytes_of held) at buf.new count)) }
+        ensures bytes { IfOk result
+            (λ count. ForSome ((files self.old).content name.now) (λ held. ReadsAt (bytes_of held) at buf.new count)) }
 
         // No read changes a content.
         ensures contents { SameEverywhere (files self.old).content (files self.new).content }

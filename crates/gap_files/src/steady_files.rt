@@ -66,7 +66,8 @@ impl Files for SteadyFiles {
     }
 
     fn start(&mut self, name: &str) -> Result<(), Trouble>
-        ensures bytes { Starts (Some (steadily_held_by self.old name.now)) (Some (steadily_held_by self.new name.now)) result }
+        ensures bytes { Starts (Some (steadily_held_by self.old name.now)) (Some (steadily_held_by self.new name.now))
+            result }
         ensures contents { SameElsewhere name.now (steady_files_now self.old).content (steady_files_now self.new).content }
 
         // It never fails, and where memory is refused no file changes.
@@ -80,7 +81,8 @@ impl Files for SteadyFiles {
     }
 
     fn append(&mut self, name: &str, bytes: &[u8]) -> Result<(), Trouble>
-        ensures bytes { Appends (Some (steadily_held_by self.old name.now)) (Some (steadily_held_by self.new name.now)) bytes.now result }
+        ensures bytes { Appends (Some (steadily_held_by self.old name.now))
+            (Some (steadily_held_by self.new name.now)) bytes.now result }
         ensures contents { SameElsewhere name.now (steady_files_now self.old).content (steady_files_now self.new).content }
 
         // It never fails, and where memory is refused no file changes.

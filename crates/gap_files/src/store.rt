@@ -44,7 +44,8 @@ impl Store {
 
     /// Writes the bytes behind those of a name, which has none where its file is missing.
     pub(crate) fn append(&mut self, name: &str, bytes: &[u8]) -> Result<(), OutOfMemory>
-        ensures put { OnOk result (content_in self.new name.now ≡ Some (bytes_of (content_in self.old name.now) ++ bytes.now)) }
+        ensures put { OnOk result
+            (content_in self.new name.now ≡ Some (bytes_of (content_in self.old name.now) ++ bytes.now)) }
         ensures others { SameElsewhere name.now (content_in self.old) (content_in self.new) }
         ensures refused { OnErr result (SameEverywhere (content_in self.old) (content_in self.new)) }
     {

@@ -1,5 +1,6 @@
 -- The market that a number generates: a market of one factor, from the words of PCG32 (O'Neill, "PCG: a family of simple
--- fast space-efficient statistically good algorithms for random number generation"). The choice of numbers is own to portgap.
+-- fast space-efficient statistically good algorithms for random number generation"). The choice of numbers is own to
+-- portgap.
 use Rattle.std.specs.Prelude.{◌≡◌, ◌≢◌, ℕ, ◌+◌, ◌*◌, ◌%◌, ◌<◌, ℤ, pos, ◌-ℤ◌}
 use Rattle.gap_base.specs.Markets.{MarketValue, mean_of, deviation_of, rho_of}
 use Rattle.rand_core.specs.Pcg32Seed.{pcg32_seed}
@@ -31,5 +32,6 @@ pub record IsGenerated (number n : ℕ) (m : MarketValue) : Type 0 where
   pub assets : m.assets ≡ n
   pub means : (i : ℕ) → i < n → mean_of m i ≡ drawn_mean (generator_of number) i
   pub deviations : (i : ℕ) → i < n → deviation_of m i ≡ drawn_deviation (generator_of number) i
-  pub correlations : (i j : ℕ) → i < n → j < n → i ≢ j → rho_of m i j ≡ pos (load_of (generator_of number) i * load_of (generator_of number) j)
+  pub correlations : (i j : ℕ) → i < n → j < n → i ≢ j
+      → rho_of m i j ≡ pos (load_of (generator_of number) i * load_of (generator_of number) j)
   pub rounded : m.rounded ≡ 0

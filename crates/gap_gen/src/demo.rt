@@ -17,7 +17,8 @@ fn add_asset(market: &mut Market, loads: &mut Vec<u16>, i: u16, asset: Asset)
     requires asset_in { i < market.old.assets }
     requires places { length loads.old.items ≡ market.old.assets }
     requires small { (k : ℕ) → slice_index_or loads.old.items k 0 ≤ 900 }
-    ensures { (g : Lcg) → (n : ℕ) → AreDrawn g n market.old loads.old.items i → IsAsset g i asset.load asset.mean asset.deviation → AreDrawn g n market.new loads.new.items (i + 1) }
+    ensures { (g : Lcg) → (n : ℕ) → AreDrawn g n market.old loads.old.items i
+        → IsAsset g i asset.load asset.mean asset.deviation → AreDrawn g n market.new loads.new.items (i + 1) }
 {
     let _assets = market.n();
     loads[usize::from(i)] = asset.load;

@@ -11,4 +11,5 @@ use Rattle.gap_model.specs.Leaves.{eighths_at}
 abbrev pub IsTangentOf : ℕ → Leaf → Witness → Type 0
 IsTangentOf n Count w = ⊥
 IsTangentOf n (Void alpha tau third) w = ⊥
-IsTangentOf n (Tangent y alpha tau third) w = (length w.y ≡ n) × ((i : ℕ) → i < n → lots_at w.y i ≡ eighths_at y.now i) × (w.alpha ≡ alpha) × (w.tau ≡ tau)
+IsTangentOf n (Tangent y alpha tau third) w =
+    (length w.y ≡ n) × ((i : ℕ) → i < n → lots_at w.y i ≡ eighths_at y.now i) × (w.alpha ≡ alpha) × (w.tau ≡ tau)

@@ -23,20 +23,28 @@ ghost use Rattle.gap_head.specs.HeadOf.{asset_line, head_of, AreRanged};
 /// that is dominant stays so.
 pub fn heads_say_instances()
     ensures head { (I : InstanceValue) (S : ShiftValue) (nodes : ℕ) → AreRanged I S nodes → IsHead (head_of I S nodes) }
-    ensures instance { (I : InstanceValue) (S : ShiftValue) (nodes : ℕ) → AreRanged I S nodes → instance_in (head_of I S nodes) ≡ said_instance I }
-    ensures said { (I : InstanceValue) (S : ShiftValue) (nodes : ℕ) → AreRanged I S nodes → IsSaid I → instance_in (head_of I S nodes) ≡ I }
+    ensures instance { (I : InstanceValue) (S : ShiftValue) (nodes : ℕ) → AreRanged I S nodes
+        → instance_in (head_of I S nodes) ≡ said_instance I }
+    ensures said { (I : InstanceValue) (S : ShiftValue) (nodes : ℕ) → AreRanged I S nodes → IsSaid I
+        → instance_in (head_of I S nodes) ≡ I }
     ensures nodes { (I : InstanceValue) (S : ShiftValue) (nodes : ℕ) → (head_of I S nodes).nodes ≡ nodes }
-    ensures diagonal { (I : InstanceValue) (S : ShiftValue) (nodes : ℕ) → (shift_in (head_of I S nodes)).diagonal ≡ S.diagonal }
-    ensures triangle { (I : InstanceValue) (S : ShiftValue) (nodes i k : ℕ) → AreRanged I S nodes → i < S.assets → k < S.assets → r_of (shift_in (head_of I S nodes)) i k ≡ r_of S i k }
-    ensures dominant { (C : ℕ → ℕ → ℤ) (I : InstanceValue) (S : ShiftValue) (nodes : ℕ) → AreRanged I S nodes → IsDominantShift C S → IsDominantShift C (shift_in (head_of I S nodes)) }
+    ensures diagonal { (I : InstanceValue) (S : ShiftValue) (nodes : ℕ)
+        → (shift_in (head_of I S nodes)).diagonal ≡ S.diagonal }
+    ensures triangle { (I : InstanceValue) (S : ShiftValue) (nodes i k : ℕ) → AreRanged I S nodes → i < S.assets
+        → k < S.assets → r_of (shift_in (head_of I S nodes)) i k ≡ r_of S i k }
+    ensures dominant { (C : ℕ → ℕ → ℤ) (I : InstanceValue) (S : ShiftValue) (nodes : ℕ) → AreRanged I S nodes
+        → IsDominantShift C S → IsDominantShift C (shift_in (head_of I S nodes)) }
 {}
 
 /// The instance of a head in its ranges says of each asset what stands at its place, and of each two assets, either way
 /// round, the correlation at the place of their pair. So heads with the same numbers have the same instance.
 pub fn heads_say_each_asset()
-    ensures asset { (h : CertHead) (i : ℕ) (d : AssetLine) → IsHead h → i < h.n → asset_line (instance_in h) i ≡ slice_index_or h.assets i d }
-    ensures pair { (h : CertHead) (i j : ℕ) → i < j → j < h.n → rho_of (instance_in h).market i j ≡ at h.correlations (pair_number h.n i j) }
-    ensures turned { (h : CertHead) (i j : ℕ) → i < j → j < h.n → rho_of (instance_in h).market j i ≡ at h.correlations (pair_number h.n i j) }
+    ensures asset { (h : CertHead) (i : ℕ) (d : AssetLine) → IsHead h → i < h.n
+        → asset_line (instance_in h) i ≡ slice_index_or h.assets i d }
+    ensures pair { (h : CertHead) (i j : ℕ) → i < j → j < h.n
+        → rho_of (instance_in h).market i j ≡ at h.correlations (pair_number h.n i j) }
+    ensures turned { (h : CertHead) (i j : ℕ) → i < j → j < h.n
+        → rho_of (instance_in h).market j i ≡ at h.correlations (pair_number h.n i j) }
 {}
 
 /// The instance of a said market and a job is the said instance of the market and the job.
@@ -59,6 +67,7 @@ pub fn said_instances_are_the_same()
     ensures objective { (I : InstanceValue) (p q : ℕ) (x : List ℕ) → objective (said_instance I) p q x ≡ objective I p q x }
     ensures meets { (I : InstanceValue) (x : List ℕ) → MeetsLimits (said_instance I) x ↔ MeetsLimits I x }
     ensures told { (I : InstanceValue) (told : Told) → IsToldRight (said_instance I) told ↔ IsToldRight I told }
-    ensures neighbours { (I : InstanceValue) (p q : ℕ) (x : List ℕ) → HasNoBetterNeighbour (said_instance I) p q x ↔ HasNoBetterNeighbour I p q x }
+    ensures neighbours { (I : InstanceValue) (p q : ℕ) (x : List ℕ)
+        → HasNoBetterNeighbour (said_instance I) p q x ↔ HasNoBetterNeighbour I p q x }
     ensures orders { (I : InstanceValue) (p q : ℕ) → SomeOrderGives (said_instance I) p q ↔ SomeOrderGives I p q }
 {}

@@ -43,7 +43,8 @@ pub record MeetsLimits (I : InstanceValue) (x : List ℕ) : Type 0 where
   pub lots_are : sum_of I.market.assets x ≡ pos I.lots
   pub fewest : I.held ≤ held_of I.market.assets x
   pub many : held_of I.market.assets x ≤ I.held_most
-  pub least_kept : (i : ℕ) → i < I.market.assets → 0 < slice_index_or x i 0 → slice_index_or I.least i 0 ≤ slice_index_or x i 0
+  pub least_kept : (i : ℕ) → i < I.market.assets → 0 < slice_index_or x i 0
+      → slice_index_or I.least i 0 ≤ slice_index_or x i 0
   pub greatest_kept : (i : ℕ) → i < I.market.assets → slice_index_or x i 0 ≤ slice_index_or I.greatest i 0
   pub turnover_kept : ForSome I.turnover (λ t. turnover_of I.market.assets I.present x ≤ℤ pos t)
 
@@ -70,5 +71,8 @@ IsFirstBroken I x Length = length x ≢ I.market.assets
 IsFirstBroken I x Lots = (length x ≡ I.market.assets) × (sum_of I.market.assets x ≢ pos I.lots)
 IsFirstBroken I x Held = (length x ≡ I.market.assets) × (sum_of I.market.assets x ≡ pos I.lots) × HoldsOutside I x
 IsFirstBroken I x (Least i) = CountsAreMet I x × IsFirstWhere (IsBelowLeast I x) I.market.assets i
-IsFirstBroken I x (Greatest i) = CountsAreMet I x × IsOfNone (IsBelowLeast I x) I.market.assets × IsFirstWhere (IsAboveGreatest I x) I.market.assets i
-IsFirstBroken I x Turnover = CountsAreMet I x × IsOfNone (IsBelowLeast I x) I.market.assets × IsOfNone (IsAboveGreatest I x) I.market.assets × TurnsTooMuch I x
+IsFirstBroken I x (Greatest i) =
+    CountsAreMet I x × IsOfNone (IsBelowLeast I x) I.market.assets × IsFirstWhere (IsAboveGreatest I x) I.market.assets i
+IsFirstBroken I x Turnover =
+    CountsAreMet I x × IsOfNone (IsBelowLeast I x) I.market.assets × IsOfNone (IsAboveGreatest I x) I.market.assets
+    × TurnsTooMuch I x

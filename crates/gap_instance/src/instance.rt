@@ -63,7 +63,8 @@ impl Instance {
     /// used. It makes the table of covariances, which costs O(N * N), also of memory. After an error the market is
     /// gone.
     pub fn new(alloc: Global, market: Market, job: &Job) -> Result<Instance, OutOfMemory>
-        requires { AreLimits market.assets job.now.lots job.now.held job.now.held_most job.now.least job.now.greatest job.now.present job.now.turnover }
+        requires { AreLimits market.assets job.now.lots job.now.held job.now.held_most job.now.least job.now.greatest
+            job.now.present job.now.turnover }
         ensures { IfOk result (λ inst. inst ≡ instance_of market job.now) }
     {
         let covariances = table_of(alloc, &market)?;

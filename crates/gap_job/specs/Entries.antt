@@ -105,7 +105,8 @@ with_weight (Err e) d = Err e
 -- the weights: 1 to 101 of them
 abbrev pub weights_of_list : Result (List Data) JobFault → Result (List Weight) JobFault
 weights_of_list (Ok entries) =
-    if nat_le 1 (length entries) && nat_le (length entries) 101 then fold with_weight (Ok []) entries else Err (Range key.Weights)
+    if nat_le 1 (length entries) && nat_le (length entries) 101 then fold with_weight (Ok []) entries else Err
+    (Range key.Weights)
 weights_of_list (Err e) = Err e
 
 unfoldable pub weights_of : Option Data → Result (List Weight) JobFault

@@ -123,7 +123,8 @@ values_of (Some d) = listed (as_array d)
 -- an answer for the value at `limits`: where each entry is sound, what they say; else the first fault
 abbrev pub TellsLimits : ℕ → ℕ → ℕ → ℕ → Option (List Data) → Result Limits JobFault → Type 0
 TellsLimits n lots least greatest None r = r ≡ Err (Kind key.Limits)
-TellsLimits n lots least greatest (Some ds) (Ok s) = AreSound (limits_wrong n lots) ds × AreLimits n least greatest ds s.least s.greatest
+TellsLimits n lots least greatest (Some ds) (Ok s) =
+    AreSound (limits_wrong n lots) ds × AreLimits n least greatest ds s.least s.greatest
 TellsLimits n lots least greatest (Some ds) (Err f) = IsFirstFault (limits_wrong n lots) ds f
 
 -- the same at `present`
@@ -136,4 +137,6 @@ TellsPresent n (Some ds) (Err f) = IsFirstFault (present_wrong n) ds f
 abbrev pub TellsWeights : Option (List Data) → Result (List Weight) JobFault → Type 0
 TellsWeights None r = r ≡ Err (Kind key.Weights)
 TellsWeights (Some ds) (Ok ws) = (1 ≤ length ds) × (length ds ≤ 101) × AreSound weight_wrong ds × AreWeights ds ws
-TellsWeights (Some ds) (Err f) = ((1 ≤ length ds) × (length ds ≤ 101) × IsFirstFault weight_wrong ds f) ⊎ (((length ds ≡ 0) ⊎ (101 < length ds)) × (f ≡ Range key.Weights))
+TellsWeights (Some ds) (Err f) =
+    ((1 ≤ length ds) × (length ds ≤ 101) × IsFirstFault weight_wrong ds f)
+    ⊎ (((length ds ≡ 0) ⊎ (101 < length ds)) × (f ≡ Range key.Weights))

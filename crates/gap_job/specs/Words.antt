@@ -26,7 +26,8 @@ pub record SaysJob (n : ℕ) (d : Data) (job : Job) : Type 0 where
   pub held_order : job.held ≤ job.held_most
   pub held_most : job.held_most ≤ n
   pub limits_sound : AreSound (limits_wrong n job.lots) (entries_said (codes "limits") d)
-  pub limits_are : AreLimits n (unwrap_or (number_said (codes "least") d) 1) (unwrap_or (number_said (codes "greatest") d) job.lots)
+  pub limits_are : AreLimits n (unwrap_or (number_said (codes "least") d) 1)
+      (unwrap_or (number_said (codes "greatest") d) job.lots)
       (entries_said (codes "limits") d) job.least job.greatest
   pub present_sound : AreSound (present_wrong n) (entries_said (codes "present") d)
   pub present_is : ArePresent n (entries_said (codes "present") d) job.present

@@ -72,7 +72,8 @@ fn is_known(name: &str) -> bool
 
 // The rank of the first key that no job has, among all keys in the order of their bytes.
 fn first_unknown(members: &Map<String, Value>) -> Option<usize>
-    ensures { result ≡ (if nat_lt (first_unknown (map string_bytes (keys members.now))) (length (keys members.now)) then Some (first_unknown (map string_bytes (keys members.now))) else None) }
+    ensures { result ≡ (if nat_lt (first_unknown (map string_bytes (keys members.now))) (length (keys members.now))
+        then Some (first_unknown (map string_bytes (keys members.now))) else None) }
 {
     members.keys().position(|name| !is_known(name.as_str()))
 }

@@ -11,9 +11,11 @@ ghost use Rattle.gap_job.specs.Sayings.{Wrong, AreSound, IsFirstFault, listed, v
 /// of an asset are those of the entry that names it, and the weights are the entries; else the first entry that is at
 /// fault gives the fault. No list is sound and has a first fault, and none has two.
 pub fn lists_say_what_their_entries_do()
-    ensures limits { (n lots least greatest : ℕ) (o : Option Data) → TellsLimits n lots least greatest (values_of o) (limits_of n lots least greatest o) }
+    ensures limits { (n lots least greatest : ℕ) (o : Option Data)
+        → TellsLimits n lots least greatest (values_of o) (limits_of n lots least greatest o) }
     ensures present { (n : ℕ) (o : Option Data) → TellsPresent n (values_of o) (present_of n o) }
     ensures weights { (d : Data) → TellsWeights (listed (as_array d)) (weights_of (Some d)) }
     ensures exclusive { (wrong : Wrong) (ds : List Data) (f : JobFault) → AreSound wrong ds → IsFirstFault wrong ds f → ⊥ }
-    ensures one_fault { (wrong : Wrong) (ds : List Data) (f g : JobFault) → IsFirstFault wrong ds f → IsFirstFault wrong ds g → f ≡ g }
+    ensures one_fault { (wrong : Wrong) (ds : List Data) (f g : JobFault) → IsFirstFault wrong ds f
+        → IsFirstFault wrong ds g → f ≡ g }
 {}

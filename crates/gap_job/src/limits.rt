@@ -38,8 +38,10 @@ fn take_entry(limits: &mut Limits, lots: u16, entry: &Value) -> Result<(), JobFa
     requires least { length limits.old.least ≡ length limits.old.named }
     requires greatest { length limits.old.greatest ≡ length limits.old.named }
     ensures named { length limits.new.named ≡ length limits.old.named }
-    ensures sizes { (length limits.new.least ≡ length limits.new.named) × (length limits.new.greatest ≡ length limits.new.named) }
-    ensures step { Steps result limits.new (limits_after (length limits.old.named) lots limits.old (three_of (view entry.now))) }
+    ensures sizes { (length limits.new.least ≡ length limits.new.named)
+        × (length limits.new.greatest ≡ length limits.new.named) }
+    ensures step { Steps result limits.new
+        (limits_after (length limits.old.named) lots limits.old (three_of (view entry.now))) }
 {
     let Some(numbers) = three_numbers(entry) else {
         return Err(JobFault::Kind(Key::Limits));

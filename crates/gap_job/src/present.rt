@@ -24,7 +24,8 @@ fn take_entry(present: &mut Present, entry: &Value) -> Result<(), JobFault>
     requires { length present.old.lots ≡ length present.old.named }
     ensures named { length present.new.named ≡ length present.old.named }
     ensures sizes { length present.new.lots ≡ length present.new.named }
-    ensures step { Steps result present.new (present_after (length present.old.named) present.old (two_of (view entry.now))) }
+    ensures step { Steps result present.new
+        (present_after (length present.old.named) present.old (two_of (view entry.now))) }
 {
     let Some(numbers) = two_numbers(entry) else {
         return Err(JobFault::Kind(Key::Present));

@@ -40,7 +40,9 @@ fn is_count(entries: usize) -> bool
 
 // Takes in the entries of a list, 1 to 101 of them.
 fn take_entries(entries: &[Value]) -> Result<Weights, JobFault>
-    ensures { result ≡ (if nat_le 1 (length entries.now) && nat_le (length entries.now) 101 then fold with_weight (Ok []) (map view entries.now) else Err (JobFault.Range Key.Weights)) }
+    ensures { result ≡ (if nat_le 1 (length entries.now)
+        && nat_le (length entries.now) 101 then fold with_weight (Ok []) (map view entries.now) else Err
+        (JobFault.Range Key.Weights)) }
 {
     if !is_count(entries.len()) {
         return Err(JobFault::Range(Key::Weights));

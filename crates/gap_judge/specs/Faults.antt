@@ -57,7 +57,8 @@ pub record IsSplitRight (p : Progress) (split : Split) : Type 0 where
 
 -- an item is right behind the items before it
 unfoldable pub IsItemRight : Progress → Field → Type 0
-IsItemRight p (field.ShiftEntry d) = length (with_diagonal p.head d).diagonal ≡ p.head.n → IsDominantHead (with_diagonal p.head d)
+IsItemRight p (field.ShiftEntry d) =
+    length (with_diagonal p.head d).diagonal ≡ p.head.n → IsDominantHead (with_diagonal p.head d)
 IsItemRight p (field.Portfolio x) = MeetsLimits (instance_in p.head) x
 IsItemRight p (field.Objective value) = value ≡ objective_now p
 IsItemRight p (field.Bound value) = p.outcome ≡ 3 → ForSome p.best (λ best. value <ℤ best.value)
@@ -100,7 +101,8 @@ pub record IsBoundFault (p : Progress) (value : ℤ) (place : ℕ) (f : CertFaul
 abbrev pub IsWrongLeaf : Progress → CertLeaf → ℕ → CertFault → Type 0
 IsWrongLeaf p count place f = (shown_next p count ≡ Nothing) × (f ≡ record { place = place; kind = kind.Count })
 IsWrongLeaf p (void alpha tau) place f =
-    (t : ℤ) × (void_theta (setting_now p) (first_part p.parts) alpha tau ≡ Some t) × (t ≤ℤ pos 0) × (f ≡ record { place = place; kind = kind.Void t })
+    (t : ℤ) × (void_theta (setting_now p) (first_part p.parts) alpha tau ≡ Some t) × (t ≤ℤ pos 0)
+    × (f ≡ record { place = place; kind = kind.Void t })
 IsWrongLeaf p (tangent w) place f = ⊥
 
 -- an open section whose tree is whole with fewer splits than the budget
@@ -137,7 +139,8 @@ IsSplitFault p split place f =
 
 -- what is at fault with an item whose first byte has the number `place`, where the bytes behind it begin with `behind`
 unfoldable pub IsItemFault : Progress → Field → (place behind : ℕ) → CertFault → Type 0
-IsItemFault p (field.ShiftEntry d) place behind f = (length (with_diagonal p.head d).diagonal ≡ p.head.n) × IsShiftFault (with_diagonal p.head d) behind f
+IsItemFault p (field.ShiftEntry d) place behind f =
+    (length (with_diagonal p.head d).diagonal ≡ p.head.n) × IsShiftFault (with_diagonal p.head d) behind f
 IsItemFault p (field.Portfolio x) place behind f = IsPortfolioFault p x place f
 IsItemFault p (field.Objective value) place behind f = IsObjectiveFault p value place f
 IsItemFault p (field.Bound value) place behind f = IsBoundFault p value place f

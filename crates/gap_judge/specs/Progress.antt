@@ -160,9 +160,15 @@ section_begun p weight outcome = record p {
 -- behind one item more
 unfoldable pub progress_behind : Progress → Field → Progress
 progress_behind p (field.Head n lots held held_most turnover nodes) =
-    record p { head = record p.head { n = n; lots = lots; held = held; held_most = held_most; turnover = turnover; nodes = nodes } }
+    record p {
+      head = record p.head
+          { n = n; lots = lots; held = held; held_most = held_most; turnover = turnover; nodes = nodes };
+    }
 progress_behind p (field.Asset mean dev least greatest present) =
-    record p { head = with_asset p.head (record { mean = mean; dev = dev; least = least; greatest = greatest; present = present }) }
+    record p {
+      head = with_asset p.head
+          (record { mean = mean; dev = dev; least = least; greatest = greatest; present = present });
+    }
 progress_behind p (field.Correlation rho) = record p { head = with_correlation p.head rho }
 progress_behind p (field.FactorEntry r) = record p { head = with_factor p.head r }
 progress_behind p (field.ShiftEntry d) = record p { head = with_diagonal p.head d }

@@ -57,7 +57,8 @@ IsDue p (field.Head n lots held held_most turnover nodes) = IsBlank p.head × (2
 IsDue p (field.Asset mean dev least greatest present) = IsUnfinished p.head
 IsDue p (field.Correlation rho) = IsUnfinished p.head
 IsDue p (field.FactorEntry r) = IsUnfinished p.head
-IsDue p (field.ShiftEntry d) = IsUnfinished p.head × (length (with_diagonal p.head d).diagonal ≡ p.head.n → IsHead (with_diagonal p.head d))
+IsDue p (field.ShiftEntry d) =
+    IsUnfinished p.head × (length (with_diagonal p.head d).diagonal ≡ p.head.n → IsHead (with_diagonal p.head d))
 IsDue p (field.Sections number) = Unit {0}
 IsDue p (field.SectionStart a b outcome) = IsHead p.head × IsWeight (record { p = a; q = b })
 IsDue p (field.Portfolio x) = IsHead p.head

@@ -13,5 +13,6 @@ pub record IsShiftUpTo (h : CertHead) (s : ShiftValue) (row column entries : ℕ
   pub factor_room : length s.factor ≡ h.n * h.n
   pub diagonal_room : length s.diagonal ≡ h.n
   pub above : (a b : ℕ) → a < b → b < h.n → at s.factor (a * h.n + b) ≡ pos 0
-  pub triangle : (a b : ℕ) → b ≤ a → a < h.n → (a < row) ⊎ ((a ≡ row) × (b < column)) → at s.factor (a * h.n + b) ≡ at h.factor (row_number a b)
+  pub triangle : (a b : ℕ) → b ≤ a → a < h.n → (a < row) ⊎ ((a ≡ row) × (b < column))
+      → at s.factor (a * h.n + b) ≡ at h.factor (row_number a b)
   pub diagonal : (a : ℕ) → a < entries → at s.diagonal a ≡ at h.diagonal a

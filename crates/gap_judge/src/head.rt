@@ -79,7 +79,14 @@ impl Head {
 
     /// Sets the numbers before the lists.
     pub fn set_numbers(&mut self, with: Numbers)
-        ensures { self.new ≡ record self.old { n = with.n; lots = with.lots; held = with.held; held_most = with.held_most; turnover = with.turnover; nodes = with.nodes } }
+        ensures { self.new ≡ record self.old {
+          n = with.n;
+          lots = with.lots;
+          held = with.held;
+          held_most = with.held_most;
+          turnover = with.turnover;
+          nodes = with.nodes;
+        } }
     {
         self.n = with.n;
         self.lots = with.lots;

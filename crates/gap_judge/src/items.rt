@@ -65,7 +65,8 @@ pub(crate) fn take_portfolio(
     behind: u64,
 ) -> Result<(), CertStop>
     requires basis { IsBasisOf head.now basis.now.instance basis.now.shift basis.now.root }
-    ensures ok { OnOk result (progress_at head.now course.new ≡ progress_behind (progress_at head.now course.old) (field.Portfolio x.now)) }
+    ensures ok { OnOk result
+        (progress_at head.now course.new ≡ progress_behind (progress_at head.now course.old) (field.Portfolio x.now)) }
     ensures right { OnOk result (IsItemRight (progress_at head.now course.old) (field.Portfolio x.now)) }
     ensures fault { IfErr result (IsStop (progress_at head.now course.old) (field.Portfolio x.now) place behind) }
 {
@@ -118,7 +119,8 @@ pub(crate) fn take_objective(
 ) -> Result<(), CertStop>
     requires basis { IsBasisOf head.now basis.now.instance basis.now.shift basis.now.root }
     requires meets { MeetsLimits (instance_in head.now) (progress_at head.now course.old).lots }
-    ensures ok { OnOk result (progress_at head.now course.new ≡ progress_behind (progress_at head.now course.old) (field.Objective claimed)) }
+    ensures ok { OnOk result
+        (progress_at head.now course.new ≡ progress_behind (progress_at head.now course.old) (field.Objective claimed)) }
     ensures right { OnOk result (IsItemRight (progress_at head.now course.old) (field.Objective claimed)) }
     ensures fault { IfErr result (IsStop (progress_at head.now course.old) (field.Objective claimed) place behind) }
 {
@@ -140,7 +142,8 @@ pub(crate) fn take_bound(
     place: u64,
     behind: u64,
 ) -> Result<(), CertStop>
-    ensures ok { OnOk result (progress_at head.now course.new ≡ progress_behind (progress_at head.now course.old) (field.Bound bound)) }
+    ensures ok { OnOk result
+        (progress_at head.now course.new ≡ progress_behind (progress_at head.now course.old) (field.Bound bound)) }
     ensures right { OnOk result (IsItemRight (progress_at head.now course.old) (field.Bound bound)) }
     ensures fault { IfErr result (IsStop (progress_at head.now course.old) (field.Bound bound) place behind) }
 {
@@ -183,7 +186,8 @@ pub(crate) fn take_split(
     behind: u64,
 ) -> Result<(), CertStop>
     requires due { IsNodeDue (progress_at head.now course.old) }
-    ensures ok { OnOk result (progress_at head.now course.new ≡ progress_behind (progress_at head.now course.old) (field.Split split)) }
+    ensures ok { OnOk result
+        (progress_at head.now course.new ≡ progress_behind (progress_at head.now course.old) (field.Split split)) }
     ensures right { OnOk result (IsItemRight (progress_at head.now course.old) (field.Split split)) }
     ensures fault { IfErr result (IsStop (progress_at head.now course.old) (field.Split split) place behind) }
 {

@@ -96,7 +96,16 @@ impl Judge {
     fn take_numbers(&mut self, with: Numbers)
         requires blank { IsBlank self.old.head }
         requires few { 2 ≤ with.n }
-        ensures { self.new ≡ record self.old { head = record self.old.head { n = with.n; lots = with.lots; held = with.held; held_most = with.held_most; turnover = with.turnover; nodes = with.nodes } } }
+        ensures { self.new ≡ record self.old {
+          head = record self.old.head {
+            n = with.n;
+            lots = with.lots;
+            held = with.held;
+            held_most = with.held_most;
+            turnover = with.turnover;
+            nodes = with.nodes;
+          };
+        } }
     {
         self.head.set_numbers(with);
     }

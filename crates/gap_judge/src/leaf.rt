@@ -47,7 +47,8 @@ fn pass(head: &Head, course: &mut Course, shown: Shown, behind: u64) -> Result<(
     requires some { course.old.least ≢ Nothing }
     requires shows { shown ≢ Nothing }
     ensures ok { OnOk result (progress_at head.now course.new ≡ behind_shown (progress_at head.now course.old) shown) }
-    ensures ends { OnOk result (drop 1 (parts_or_none course.old.walk) ≡ [] → EndsWell (with_shown (progress_at head.now course.old) shown)) }
+    ensures ends { OnOk result
+        (drop 1 (parts_or_none course.old.walk) ≡ [] → EndsWell (with_shown (progress_at head.now course.old) shown)) }
     ensures fault { IfErr result (IsLastStop (progress_at head.now course.old) shown behind) }
 {
     course.least = lesser(course.least, shown);
@@ -101,7 +102,8 @@ pub(crate) fn take_void(
 ) -> Result<(), CertStop>
     requires basis { IsBasisOf head.now basis.now.instance basis.now.shift basis.now.root }
     requires due { IsLeafDue (progress_at head.now course.old) (void alpha tau) }
-    ensures ok { OnOk result (progress_at head.now course.new ≡ behind_leaf (progress_at head.now course.old) (void alpha tau)) }
+    ensures ok { OnOk result
+        (progress_at head.now course.new ≡ behind_leaf (progress_at head.now course.old) (void alpha tau)) }
     ensures right { OnOk result (IsLeafRight (progress_at head.now course.old) (void alpha tau)) }
     ensures fault { IfErr result (IsLeafStop (progress_at head.now course.old) (void alpha tau) place behind) }
 {
@@ -123,7 +125,8 @@ pub(crate) fn take_tangent(
 ) -> Result<(), CertStop>
     requires basis { IsBasisOf head.now basis.now.instance basis.now.shift basis.now.root }
     requires due { IsLeafDue (progress_at head.now course.old) (tangent w.now) }
-    ensures ok { OnOk result (progress_at head.now course.new ≡ behind_leaf (progress_at head.now course.old) (tangent w.now)) }
+    ensures ok { OnOk result
+        (progress_at head.now course.new ≡ behind_leaf (progress_at head.now course.old) (tangent w.now)) }
     ensures right { OnOk result (IsLeafRight (progress_at head.now course.old) (tangent w.now)) }
     ensures fault { IfErr result (IsLeafStop (progress_at head.now course.old) (tangent w.now) place behind) }
 {

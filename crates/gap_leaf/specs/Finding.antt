@@ -45,7 +45,10 @@ pub record IsLeafFor (s : Setting) (part : List Cell) (hint : Witness) (leaf : L
   pub no_less : ShownLe (witness_shows s part hint) (shows s part leaf)
   pub own : IsOwnBest s part leaf
   pub point : HasTangentPoint s part → NoLessThanAt s part (lots_at (point s (choice_of s part) hint.y)) (shows s part leaf)
-  pub voids : (alpha tau : ℤ) → IsVoidTry s.instance.turnover alpha tau → shows s part (Void alpha tau (pos 0)) ≡ Empty → shows s part leaf ≡ Empty
+  pub voids : (alpha tau : ℤ) → IsVoidTry s.instance.turnover alpha tau
+      → shows s part (Void alpha tau (pos 0)) ≡ Empty → shows s part leaf ≡ Empty
   pub uncounted : can_meet part s.instance.held s.instance.held_most ≡ false → leaf ≡ Count
-  pub exact : (x : List ℕ) → IsSingle part s.instance.held s.instance.held_most x → meets_limits s.instance x ≡ true → IsTangentAt x leaf
-  pub broken : (x : List ℕ) → IsSingle part s.instance.held s.instance.held_most x → meets_limits s.instance x ≡ false → leaf ≡ void_for s.instance x
+  pub exact : (x : List ℕ) → IsSingle part s.instance.held s.instance.held_most x → meets_limits s.instance x ≡ true
+      → IsTangentAt x leaf
+  pub broken : (x : List ℕ) → IsSingle part s.instance.held s.instance.held_most x → meets_limits s.instance x ≡ false
+      → leaf ≡ void_for s.instance x

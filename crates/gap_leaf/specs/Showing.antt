@@ -23,10 +23,12 @@ witness_shows s part w = tangent_shown s part (lots_at w.y) w.alpha w.tau
 -- what is shown is no less than what the tangent at a point shows without a price of the turnover, whatever alpha in its
 -- range is
 unfoldable pub NoLessThanAt : Setting → List Cell → (ℕ → ℤ) → Shown → Type 0
-NoLessThanAt s part y shown = (alpha : ℤ) → unsigned_abs alpha ≤ most_multiplier → ShownLe (tangent_shown s part y alpha (pos 0)) shown
+NoLessThanAt s part y shown =
+    (alpha : ℤ) → unsigned_abs alpha ≤ most_multiplier → ShownLe (tangent_shown s part y alpha (pos 0)) shown
 
 -- a leaf that is a tangent shows no less than its own point without a price of the turnover, whatever alpha is
 abbrev pub IsOwnBest : Setting → List Cell → Leaf → Type 0
 IsOwnBest s part Count = Unit {0}
 IsOwnBest s part (Void alpha tau third) = Unit {0}
-IsOwnBest s part (Tangent y alpha tau third) = NoLessThanAt s part (eighths_at y.now) (shows s part (Tangent y alpha tau third))
+IsOwnBest s part (Tangent y alpha tau third) =
+    NoLessThanAt s part (eighths_at y.now) (shows s part (Tangent y alpha tau third))

@@ -13,12 +13,15 @@ use Rattle.gap_leaf.specs.declared.multipliers.Multipliers.{Multipliers}
 -- the multipliers that a void leaf is tried with: 1 or -1 for the sum of lots alone; where a turnover limit is set, also 1
 -- for the turnover with 0, 1 or -1 for the sum
 abbrev pub IsVoidTry : Option ℕ → ℤ → ℤ → Type 0
-IsVoidTry turnover alpha tau = ((unsigned_abs alpha ≡ 1) × (tau ≡ pos 0)) ⊎ ((unsigned_abs alpha ≤ 1) × (tau ≡ pos 1) × IsSome turnover)
+IsVoidTry turnover alpha tau =
+    ((unsigned_abs alpha ≡ 1) × (tau ≡ pos 0)) ⊎ ((unsigned_abs alpha ≤ 1) × (tau ≡ pos 1) × IsSome turnover)
 
 -- the void leaf for a list that holds a number of assets in range and doesn't meet the limits: its sum is above L, or below
 -- it, or else its turnover is too great
 abbrev pub void_for : InstanceValue → List ℕ → Leaf
-void_for I x = cond (ltb I.lots (sum x)) (Void (pos 1) (pos 0) (pos 0)) (cond (ltb (sum x) I.lots) (Void (negsuc 0) (pos 0) (pos 0)) (Void (pos 0) (pos 1) (pos 0)))
+void_for I x =
+    cond (ltb I.lots (sum x)) (Void (pos 1) (pos 0) (pos 0))
+    (cond (ltb (sum x) I.lots) (Void (negsuc 0) (pos 0) (pos 0)) (Void (pos 0) (pos 1) (pos 0)))
 
 -- the third multiplier of a leaf
 abbrev pub third_of : Leaf → ℤ

@@ -27,12 +27,14 @@ fn stride_from(start: i128) -> i128
 
 /// The line of theta over alpha at the best alpha, looked for from `start`.
 pub(crate) fn best_alpha_from(tangent: &Tangent<'_>, part: &Part, tau: i128, start: i128) -> Line
-    requires within { IsWithin part.now (root_cells tangent.now.setting.instance.least tangent.now.setting.instance.greatest) }
+    requires within { IsWithin part.now
+        (root_cells tangent.now.setting.instance.least tangent.now.setting.instance.greatest) }
     requires counted { can_meet part.now tangent.now.setting.instance.held tangent.now.setting.instance.held_most ≡ true }
     requires tau { AreMultipliers tangent.now.setting.instance.turnover (pos 0) tau }
     requires start { unsigned_abs start ≤ most_multiplier }
     ensures line { IsLine (alpha_curve tangent.now.setting part.now (lots_at tangent.now.eighths) tau) result }
-    ensures best { IsBest (alpha_curve tangent.now.setting part.now (lots_at tangent.now.eighths) tau) (neg_ℤ (pos most_multiplier)) (pos most_multiplier) result.place }
+    ensures best { IsBest (alpha_curve tangent.now.setting part.now (lots_at tangent.now.eighths) tau)
+        (neg_ℤ (pos most_multiplier)) (pos most_multiplier) result.place }
 {
     match tangent.alpha_curve(part, tau) {
         Some(curve) => best_place(&curve, -MOST, MOST, start, stride_from(start)),
@@ -42,14 +44,16 @@ pub(crate) fn best_alpha_from(tangent: &Tangent<'_>, part: &Part, tau: i128, sta
 
 /// The line of theta over tau at the best tau, looked for from `start`.
 pub(crate) fn best_tau_from(tangent: &Tangent<'_>, part: &Part, alpha: i128, start: i128) -> Line
-    requires within { IsWithin part.now (root_cells tangent.now.setting.instance.least tangent.now.setting.instance.greatest) }
+    requires within { IsWithin part.now
+        (root_cells tangent.now.setting.instance.least tangent.now.setting.instance.greatest) }
     requires counted { can_meet part.now tangent.now.setting.instance.held tangent.now.setting.instance.held_most ≡ true }
     requires limited { IsSome tangent.now.setting.instance.turnover }
     requires alpha { unsigned_abs alpha ≤ most_multiplier }
     requires start { unsigned_abs start ≤ most_multiplier }
     requires start_least { pos 0 ≤ℤ start }
     ensures line { IsLine (tau_curve tangent.now.setting part.now (lots_at tangent.now.eighths) alpha) result }
-    ensures best { IsBest (tau_curve tangent.now.setting part.now (lots_at tangent.now.eighths) alpha) (pos 0) (pos most_multiplier) result.place }
+    ensures best { IsBest (tau_curve tangent.now.setting part.now (lots_at tangent.now.eighths) alpha) (pos 0)
+        (pos most_multiplier) result.place }
 {
     match tangent.tau_curve(part, alpha) {
         Some(curve) => best_place(&curve, 0, MOST, start, stride_from(start)),
@@ -60,11 +64,13 @@ pub(crate) fn best_tau_from(tangent: &Tangent<'_>, part: &Part, alpha: i128, sta
 /// The best alpha for a point and a tau: of all of at most 10^30 in size, the one under which theta of the part is greatest,
 /// and of equal ones the one nearest to 0. It takes no memory, and costs some ten thetas.
 pub fn best_alpha(mv: &MeanVariance<'_>, part: &Part, y: &Eighths, tau: i128) -> i128
-    requires within { IsWithin part.now (root_cells (setting_of mv.now).instance.least (setting_of mv.now).instance.greatest) }
+    requires within { IsWithin part.now
+        (root_cells (setting_of mv.now).instance.least (setting_of mv.now).instance.greatest) }
     requires counted { can_meet part.now (setting_of mv.now).instance.held (setting_of mv.now).instance.held_most ≡ true }
     requires point { IsPoint (setting_of mv.now).instance y.now }
     requires tau { AreMultipliers (setting_of mv.now).instance.turnover (pos 0) tau }
-    ensures { IsBest (alpha_curve (setting_of mv.now) part.now (lots_at y.now) tau) (neg_ℤ (pos most_multiplier)) (pos most_multiplier) result }
+    ensures { IsBest (alpha_curve (setting_of mv.now) part.now (lots_at y.now) tau) (neg_ℤ (pos most_multiplier))
+        (pos most_multiplier) result }
 {
     best_alpha_from(&Tangent::at(mv, y), part, tau, 0).place
 }
@@ -72,7 +78,8 @@ pub fn best_alpha(mv: &MeanVariance<'_>, part: &Part, y: &Eighths, tau: i128) ->
 /// The best tau for a point and an alpha, where the turnover is limited: of all from 0 to 10^30, the least under which theta
 /// of the part is greatest. It takes no memory, and costs some ten thetas.
 pub fn best_tau(mv: &MeanVariance<'_>, part: &Part, y: &Eighths, alpha: i128) -> i128
-    requires within { IsWithin part.now (root_cells (setting_of mv.now).instance.least (setting_of mv.now).instance.greatest) }
+    requires within { IsWithin part.now
+        (root_cells (setting_of mv.now).instance.least (setting_of mv.now).instance.greatest) }
     requires counted { can_meet part.now (setting_of mv.now).instance.held (setting_of mv.now).instance.held_most ≡ true }
     requires limited { IsSome (setting_of mv.now).instance.turnover }
     requires point { IsPoint (setting_of mv.now).instance y.now }

@@ -26,7 +26,8 @@ pub(crate) struct Priced {
 
 /// New multipliers of a tangent where the turnover isn't limited: the best alpha, looked for from `alpha`.
 fn plain_multipliers(tangent: &Tangent<'_>, part: &Part, alpha: i128) -> Priced
-    requires within { IsWithin part.now (root_cells tangent.now.setting.instance.least tangent.now.setting.instance.greatest) }
+    requires within { IsWithin part.now
+        (root_cells tangent.now.setting.instance.least tangent.now.setting.instance.greatest) }
     requires counted { can_meet part.now tangent.now.setting.instance.held tangent.now.setting.instance.held_most ≡ true }
     requires alpha { unsigned_abs alpha ≤ most_multiplier }
     ensures { AreBestAt tangent.now.setting part.now (lots_at tangent.now.eighths) result.alpha result.tau result.theta }
@@ -42,7 +43,8 @@ fn plain_multipliers(tangent: &Tangent<'_>, part: &Part, alpha: i128) -> Priced
 /// New multipliers of a tangent where the turnover is limited: alpha is best for no price of the turnover, tau for this
 /// alpha, and then alpha for this tau. They are looked for from `alpha` and `tau`.
 fn turned_multipliers(tangent: &Tangent<'_>, part: &Part, alpha: i128, tau: i128) -> Priced
-    requires within { IsWithin part.now (root_cells tangent.now.setting.instance.least tangent.now.setting.instance.greatest) }
+    requires within { IsWithin part.now
+        (root_cells tangent.now.setting.instance.least tangent.now.setting.instance.greatest) }
     requires counted { can_meet part.now tangent.now.setting.instance.held tangent.now.setting.instance.held_most ≡ true }
     requires limited { IsSome tangent.now.setting.instance.turnover }
     requires alpha { unsigned_abs alpha ≤ most_multiplier }
@@ -69,7 +71,8 @@ fn new_multipliers(
     tau: i128,
 ) -> Priced
     requires same { tangent.now.setting ≡ setting_of mv.now }
-    requires within { IsWithin part.now (root_cells tangent.now.setting.instance.least tangent.now.setting.instance.greatest) }
+    requires within { IsWithin part.now
+        (root_cells tangent.now.setting.instance.least tangent.now.setting.instance.greatest) }
     requires counted { can_meet part.now tangent.now.setting.instance.held tangent.now.setting.instance.held_most ≡ true }
     requires multipliers { AreMultipliers tangent.now.setting.instance.turnover alpha tau }
     ensures { AreBestAt tangent.now.setting part.now (lots_at tangent.now.eighths) result.alpha result.tau result.theta }
@@ -82,7 +85,8 @@ fn new_multipliers(
 
 /// Theta of the part under these multipliers.
 fn theta_of(tangent: &Tangent<'_>, part: &Part, alpha: i128, tau: i128) -> i128
-    requires within { IsWithin part.now (root_cells tangent.now.setting.instance.least tangent.now.setting.instance.greatest) }
+    requires within { IsWithin part.now
+        (root_cells tangent.now.setting.instance.least tangent.now.setting.instance.greatest) }
     requires counted { can_meet part.now tangent.now.setting.instance.held tangent.now.setting.instance.held_most ≡ true }
     requires multipliers { AreMultipliers tangent.now.setting.instance.turnover alpha tau }
     ensures value { result ≡ alpha_curve tangent.now.setting part.now (lots_at tangent.now.eighths) tau alpha }
@@ -112,10 +116,12 @@ pub(crate) fn kept_multipliers(
     tau: i128,
 ) -> Priced
     requires same { tangent.now.setting ≡ setting_of mv.now }
-    requires within { IsWithin part.now (root_cells tangent.now.setting.instance.least tangent.now.setting.instance.greatest) }
+    requires within { IsWithin part.now
+        (root_cells tangent.now.setting.instance.least tangent.now.setting.instance.greatest) }
     requires counted { can_meet part.now tangent.now.setting.instance.held tangent.now.setting.instance.held_most ≡ true }
     requires multipliers { AreMultipliers tangent.now.setting.instance.turnover alpha tau }
-    ensures best { AreBestAt tangent.now.setting part.now (lots_at tangent.now.eighths) result.alpha result.tau result.theta }
+    ensures best { AreBestAt tangent.now.setting part.now (lots_at tangent.now.eighths) result.alpha result.tau
+        result.theta }
     ensures no_less { alpha_curve tangent.now.setting part.now (lots_at tangent.now.eighths) tau alpha ≤ℤ result.theta }
 {
     let new = new_multipliers(mv, tangent, part, alpha, tau);
@@ -134,10 +140,12 @@ pub(crate) fn best_witness(
     tau: i128,
 ) -> Witness
     requires same { tangent.now.setting ≡ setting_of mv.now }
-    requires within { IsWithin part.now (root_cells tangent.now.setting.instance.least tangent.now.setting.instance.greatest) }
+    requires within { IsWithin part.now
+        (root_cells tangent.now.setting.instance.least tangent.now.setting.instance.greatest) }
     requires has { HasTangentPoint tangent.now.setting part.now }
     requires multipliers { AreMultipliers tangent.now.setting.instance.turnover alpha tau }
-    ensures { IsCandidate tangent.now.setting part.now (record { y = tangent.now.eighths; alpha = alpha; tau = tau }) result }
+    ensures { IsCandidate tangent.now.setting part.now (record { y = tangent.now.eighths; alpha = alpha; tau = tau })
+        result }
 {
     let kept = kept_multipliers(mv, tangent, part, alpha, tau);
     let moved_point = kept_tangent_point(mv, part, tangent.eighths());

@@ -21,7 +21,8 @@ pub fn witness_for<'a>(
     hint: &Witness,
     arena: &'a Bump,
 ) -> Result<Leaf<'a>, OutOfMemory>
-    requires within { IsWithin part.now (root_cells (setting_of mv.now).instance.least (setting_of mv.now).instance.greatest) }
+    requires within { IsWithin part.now
+        (root_cells (setting_of mv.now).instance.least (setting_of mv.now).instance.greatest) }
     requires hint { IsWitness (setting_of mv.now) hint.now }
     ensures { IfOk result (IsLeafFor (setting_of mv.now) part.now hint.now) }
 {

@@ -33,9 +33,13 @@ impl<'m> Model for Hinted<'m> {
 
     ghost Value = { HintValue };
 
-    ghost view = { λ h. record { setting = setting_of h.bound.now; hint = record { y = h.tangent.eighths; alpha = h.alpha; tau = h.tau } } };
+    ghost view = { λ h. record {
+      setting = setting_of h.bound.now;
+      hint = record { y = h.tangent.eighths; alpha = h.alpha; tau = h.tau };
+    } };
 
-    ghost invariant = { λ h. (h.tangent.setting ≡ setting_of h.bound.now) × IsWitness (setting_of h.bound.now) (record { y = h.tangent.eighths; alpha = h.alpha; tau = h.tau }) };
+    ghost invariant = { λ h. (h.tangent.setting ≡ setting_of h.bound.now)
+        × IsWitness (setting_of h.bound.now) (record { y = h.tangent.eighths; alpha = h.alpha; tau = h.tau }) };
 }
 
 impl<'m> Hinted<'m> {
@@ -95,7 +99,8 @@ impl<'m> Hinted<'m> {
         requires within { IsWithin part.now (root_cells self.now.setting.instance.least self.now.setting.instance.greatest) }
         requires counted { can_meet part.now self.now.setting.instance.held self.now.setting.instance.held_most ≡ true }
         requires no_void { first_void self.now.setting part.now ≡ None }
-        requires several { (x : List ℕ) → IsSingle part.now self.now.setting.instance.held self.now.setting.instance.held_most x → ⊥ }
+        requires several { (x : List ℕ)
+            → IsSingle part.now self.now.setting.instance.held self.now.setting.instance.held_most x → ⊥ }
         ensures { IfOk result (IsLeafFor self.now.setting part.now self.now.hint) }
     {
         let _assets = self.bound.instance().n();

@@ -17,7 +17,8 @@ struct Entries {
 /// One entry more, where the asset has eighths.
 fn add_entry(entries: &mut Entries, asset: u16, eighths: u32)
     requires { entries.old.count < 256 }
-    ensures entries { take entries.new.count entries.new.room ≡ take entries.old.count entries.old.room ++ point_entries asset (eighths ∷ []) }
+    ensures entries { take entries.new.count entries.new.room
+        ≡ take entries.old.count entries.old.room ++ point_entries asset (eighths ∷ []) }
     ensures count { entries.new.count ≤ entries.old.count + 1 }
 {
     if eighths > 0 {

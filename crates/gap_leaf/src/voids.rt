@@ -24,7 +24,8 @@ fn says_empty(shown: Shown) -> bool
 
 /// Does the void leaf show that the part has no list that meets the limits?
 fn void_is_empty(mv: &MeanVariance<'_>, part: &Part, alpha: i128, tau: i128) -> bool
-    requires within { IsWithin part.now (root_cells (setting_of mv.now).instance.least (setting_of mv.now).instance.greatest) }
+    requires within { IsWithin part.now
+        (root_cells (setting_of mv.now).instance.least (setting_of mv.now).instance.greatest) }
     requires multipliers { AreMultipliers (setting_of mv.now).instance.turnover alpha tau }
     ensures { result ≡ is_void_empty (setting_of mv.now) part.now alpha tau }
 {
@@ -40,7 +41,8 @@ fn void_is_empty(mv: &MeanVariance<'_>, part: &Part, alpha: i128, tau: i128) -> 
 
 /// The first of the multipliers with 1 for the turnover, which is limited, whose void leaf shows so.
 fn turned_void(mv: &MeanVariance<'_>, part: &Part, limit: u32) -> Option<Multipliers>
-    requires within { IsWithin part.now (root_cells (setting_of mv.now).instance.least (setting_of mv.now).instance.greatest) }
+    requires within { IsWithin part.now
+        (root_cells (setting_of mv.now).instance.least (setting_of mv.now).instance.greatest) }
     requires limited { (setting_of mv.now).instance.turnover ≡ Some limit }
     ensures { result ≡ turned_void (setting_of mv.now) part.now (Some limit) }
 {

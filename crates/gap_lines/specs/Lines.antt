@@ -1,4 +1,5 @@
--- Lines through a curve and nowhere below it, and where a curve is highest. Own to portgap; in convex analysis the slopes of such lines are the
+-- Lines through a curve and nowhere below it, and where a curve is highest. Own to portgap; in convex analysis the
+-- slopes of such lines are the
 -- supergradients of the curve.
 use Rattle.std.specs.Prelude.{◌≡◌, ◌≤◌, ℤ, ◌+ℤ◌, ◌-ℤ◌, ◌*ℤ◌, ◌≤ℤ◌, unsigned_abs}
 use Rattle.gap_lines.specs.declared.line.Line.{Line}

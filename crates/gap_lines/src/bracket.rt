@@ -37,7 +37,10 @@ fn higher(first: &Line, second: &Line) -> Line
 pub(crate) fn narrowed(bracket: &Bracket, line: &Line) -> Bracket
     requires after { bracket.now.below <ℤ line.now.place }
     requires before { line.now.place <ℤ bracket.now.above }
-    ensures bracket { (value : ℤ → ℤ) (low high : ℤ) → IsBracket value low high bracket.now.below bracket.now.above bracket.now.rise bracket.now.fall bracket.now.top → IsLine value line.now → IsBracket value low high result.below result.above result.rise result.fall result.top }
+    ensures bracket { (value : ℤ → ℤ) (low high : ℤ)
+        → IsBracket value low high bracket.now.below bracket.now.above bracket.now.rise bracket.now.fall
+        bracket.now.top → IsLine value line.now
+        → IsBracket value low high result.below result.above result.rise result.fall result.top }
     ensures less { unsigned_abs (result.above -ℤ result.below) < unsigned_abs (bracket.now.above -ℤ bracket.now.below) }
 {
     let top = higher(&bracket.top, line);
@@ -74,7 +77,8 @@ pub(crate) fn opened(low: i128, high: i128, line: &Line) -> Bracket
     requires high { unsigned_abs high ≤ 1000000000000000000000000000000 }
     requires from { low ≤ℤ line.now.place }
     requires to { line.now.place ≤ℤ high }
-    ensures { (value : ℤ → ℤ) → IsLine value line.now → IsBracket value low high result.below result.above result.rise result.fall result.top }
+    ensures { (value : ℤ → ℤ) → IsLine value line.now
+        → IsBracket value low high result.below result.above result.rise result.fall result.top }
 {
     let all = Bracket {
         below: low - 1,
@@ -130,7 +134,9 @@ fn place_between(bracket: &Bracket) -> Option<i128>
     requires room { (bracket.now.below +ℤ pos 1) <ℤ bracket.now.above }
     requires rise { pos 0 <ℤ bracket.now.rise.slope }
     requires fall { bracket.now.fall.slope <ℤ pos 0 }
-    ensures { MatchOption result ((value : ℤ → ℤ) → IsLine value bracket.now.rise → IsLine value bracket.now.fall → (t : ℤ) → value t ≤ℤ bracket.now.top.value) (λ p. (bracket.now.below <ℤ p) × (p <ℤ bracket.now.above)) }
+    ensures { MatchOption result
+        ((value : ℤ → ℤ) → IsLine value bracket.now.rise → IsLine value bracket.now.fall → (t : ℤ)
+        → value t ≤ℤ bracket.now.top.value) (λ p. (bracket.now.below <ℤ p) × (p <ℤ bracket.now.above)) }
 {
     let cut = meeting(bracket);
     let before = height_at(&bracket.rise, cut);
@@ -149,7 +155,9 @@ fn place_between(bracket: &Bracket) -> Option<i128>
 pub(crate) fn next_place(bracket: &Bracket, step: i128) -> Option<i128>
     requires room { (bracket.now.below +ℤ pos 1) <ℤ bracket.now.above }
     requires step { unsigned_abs step ≤ 10000000000000000000000000000000 }
-    ensures { MatchOption result ((value : ℤ → ℤ) → IsLine value bracket.now.rise → IsLine value bracket.now.fall → (t : ℤ) → value t ≤ℤ bracket.now.top.value) (λ p. (bracket.now.below <ℤ p) × (p <ℤ bracket.now.above)) }
+    ensures { MatchOption result
+        ((value : ℤ → ℤ) → IsLine value bracket.now.rise → IsLine value bracket.now.fall → (t : ℤ)
+        → value t ≤ℤ bracket.now.top.value) (λ p. (bracket.now.below <ℤ p) × (p <ℤ bracket.now.above)) }
 {
     let rises = bracket.rise.slope > 0;
     let falls = bracket.fall.slope < 0;

@@ -13,7 +13,8 @@ pub(crate) fn first_reach(floor: i128, rise: &Line, top: &Line) -> i128
     requires { floor ≤ℤ top.now.place }
     ensures from { floor ≤ℤ result }
     ensures to { result ≤ℤ top.now.place }
-    ensures before { (value : ℤ → ℤ) → IsLine value rise.now → floor <ℤ result → (b : ℤ) → b <ℤ result → value b <ℤ top.now.value }
+    ensures before { (value : ℤ → ℤ) → IsLine value rise.now → floor <ℤ result → (b : ℤ) → b <ℤ result
+        → value b <ℤ top.now.value }
 {
     if rise.slope > 0 && rise.value < top.value && rise.place < top.place {
         let reach = reach_within(rise, top);

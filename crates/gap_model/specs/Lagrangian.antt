@@ -28,7 +28,9 @@ turnover_term I (Some t) tau x = tau *ℤ (turnover_of I.market.assets I.present
 
 -- the terms with alpha and tau alone: alpha (sum x - L) + tau (turnover of x - T)
 unfoldable pub void_lag : Setting → ℤ → ℤ → List ℕ → ℤ
-void_lag s alpha tau x = (alpha *ℤ (sum_of s.instance.market.assets x -ℤ pos s.instance.lots)) +ℤ turnover_term s.instance s.instance.turnover tau x
+void_lag s alpha tau x =
+    (alpha *ℤ (sum_of s.instance.market.assets x -ℤ pos s.instance.lots))
+    +ℤ turnover_term s.instance s.instance.turnover tau x
 
 -- the Lagrangian at Y, alpha, tau: p (16 Y'Ax - Y'AY) - 64 p sum D_i x_i^2 - 64 sum a_i x_i + the terms with alpha and tau
 unfoldable pub lag : Setting → (ℕ → ℤ) → ℤ → ℤ → List ℕ → ℤ

@@ -20,7 +20,8 @@ eighths_at (e ∷ y) i = cond (eqb e.asset i) (pos e.eighths) (eighths_at y i)
 -- the entries of a list of lots in eighths: one for each asset that it holds, the first number being that of the asset i
 abbrev pub entries_from : ℕ → List ℕ → List Entry
 entries_from i [] = []
-entries_from i (v ∷ x) = cond (ltb 0 v) (record { asset = i; eighths = 8 * v } ∷ entries_from (suc i) x) (entries_from (suc i) x)
+entries_from i (v ∷ x) =
+    cond (ltb 0 v) (record { asset = i; eighths = 8 * v } ∷ entries_from (suc i) x) (entries_from (suc i) x)
 
 -- do the entries ascend by asset, with none below the first number or at or above the second, and with positive eighths?
 abbrev pub ascend : ℕ → ℕ → List Entry → Bool
@@ -29,14 +30,19 @@ ascend i n (e ∷ y) = leb i e.asset && (ltb e.asset n && (ltb 0 e.eighths && as
 
 -- are the multipliers in range? alpha is at most 10^30 in size, tau is 0 to 10^30, and 0 where no turnover limit is set
 abbrev pub are_multipliers : Option ℕ → ℤ → ℤ → Bool
-are_multipliers turnover alpha tau = leb (unsigned_abs alpha) 1000000000000000000000000000000 && (leb (unsigned_abs tau) 1000000000000000000000000000000 && (int_le (pos 0) tau && (is_some turnover || int_le tau (pos 0))))
+are_multipliers turnover alpha tau =
+    leb (unsigned_abs alpha) 1000000000000000000000000000000
+    && (leb (unsigned_abs tau) 1000000000000000000000000000000
+    && (int_le (pos 0) tau && (is_some turnover || int_le tau (pos 0))))
 
 -- is a leaf in range? Its entries ascend by asset, name assets that there are, and give each a positive number of
 -- eighths, all together at most 8L, and its multipliers are in range
 abbrev pub in_range : Setting → Leaf → Bool
 in_range s Count = true
 in_range s (Void alpha tau third) = are_multipliers s.instance.turnover alpha tau
-in_range s (Tangent y alpha tau third) = ascend 0 s.instance.market.assets y.now && (leb (sum_by (λ e. e.eighths) y.now) (8 * s.instance.lots) && are_multipliers s.instance.turnover alpha tau)
+in_range s (Tangent y alpha tau third) =
+    ascend 0 s.instance.market.assets y.now
+    && (leb (sum_by (λ e. e.eighths) y.now) (8 * s.instance.lots) && are_multipliers s.instance.turnover alpha tau)
 
 -- the multipliers are in range, said by facts
 pub record AreMultipliers (turnover : Option ℕ) (alpha tau : ℤ) : Type 0 where
@@ -86,4 +92,5 @@ tangent_shows (Some t) = AtLeast (sixty_fourth t)
 unfoldable pub shows : Setting → List Cell → Leaf → Shown
 shows s part Count = count_shows (can_meet part s.instance.held s.instance.held_most)
 shows s part (Void alpha tau third) = cond (is_zero third) (void_shows (void_theta s part alpha tau)) Nothing
-shows s part (Tangent y alpha tau third) = cond (is_zero third) (tangent_shows (theta s part (eighths_at y.now) alpha tau)) Nothing
+shows s part (Tangent y alpha tau third) =
+    cond (is_zero third) (tangent_shows (theta s part (eighths_at y.now) alpha tau)) Nothing

@@ -12,7 +12,9 @@ all_below (suc n) p = all_below n p && p n
 
 -- is the number of an asset at most its greatest, and 0 or at least its least?
 abbrev pub keeps_range : InstanceValue → List ℕ → ℕ → Bool
-keeps_range I x i = leb (slice_index_or x i 0) (slice_index_or I.greatest i 0) && (eqb (slice_index_or x i 0) 0 || leb (slice_index_or I.least i 0) (slice_index_or x i 0))
+keeps_range I x i =
+    leb (slice_index_or x i 0) (slice_index_or I.greatest i 0)
+    && (eqb (slice_index_or x i 0) 0 || leb (slice_index_or I.least i 0) (slice_index_or x i 0))
 
 -- is the turnover at most T, where T is set?
 abbrev pub keeps_turnover : InstanceValue → Option ℕ → List ℕ → Bool
@@ -21,4 +23,8 @@ keeps_turnover I (Some t) x = int_le (turnover_of I.market.assets I.present x) (
 
 -- does the list meet the limits of the instance?
 unfoldable pub meets_limits : InstanceValue → List ℕ → Bool
-meets_limits I x = eqb (length x) I.market.assets && (eqb (sum x) I.lots && ((leb I.held (held_of I.market.assets x) && leb (held_of I.market.assets x) I.held_most) && (all_below I.market.assets (keeps_range I x) && keeps_turnover I I.turnover x)))
+meets_limits I x =
+    eqb (length x) I.market.assets
+    && (eqb (sum x) I.lots
+    && ((leb I.held (held_of I.market.assets x) && leb (held_of I.market.assets x) I.held_most)
+    && (all_below I.market.assets (keeps_range I x) && keeps_turnover I I.turnover x)))

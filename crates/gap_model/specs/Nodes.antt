@@ -11,7 +11,8 @@ use Rattle.gap_box.specs.Splits.{lawful_split, child_cells}
 use Rattle.gap_model.specs.declared.leaf.Leaf.{Leaf}
 use Rattle.gap_model.specs.Trees.{SplitTree, tip, fork}
 
--- what became of a node: it ends in a leaf, or forks by a split, where its first child has the number and the second the next
+-- what became of a node: it ends in a leaf, or forks by a split, where its first child has the number and the second
+-- the next
 pub data Fate : Type 0 where
   ends : Leaf → Fate
   forks : Split → ℕ → Fate
@@ -114,7 +115,9 @@ new_leaf part parent leaf = record { part = part; parent = Some parent; fate = e
 
 -- the nodes after the leaf n was split: it forks, and its two children come last
 abbrev pub split_nodes : List Node → ℕ → Split → Leaf → Leaf → List Node
-split_nodes nodes n split first second = refated (forks split (length nodes)) nodes n ++ new_leaf (child_cells (part_at nodes n) split First) n first ∷ new_leaf (child_cells (part_at nodes n) split Second) n second ∷ []
+split_nodes nodes n split first second =
+    refated (forks split (length nodes)) nodes n ++ new_leaf (child_cells (part_at nodes n) split First) n first
+    ∷ new_leaf (child_cells (part_at nodes n) split Second) n second ∷ []
 
 -- the nodes after another leaf was put in the place of the leaf n
 abbrev pub leaf_nodes : List Node → ℕ → Leaf → List Node
@@ -145,7 +148,8 @@ pub record IsTree (nodes : List Node) : Type 0 where
   pub root : (node : Node) × (slice_get nodes 0 ≡ Some node) × (node.parent ≡ None)
   pub cells : (n : ℕ) (node : Node) → slice_get nodes n ≡ Some node → AreCells node.part
   pub within : (n : ℕ) (node : Node) → slice_get nodes n ≡ Some node → IsWithin node.part (part_at nodes 0)
-  pub children : (n : ℕ) (node : Node) (split : Split) (k : ℕ) → slice_get nodes n ≡ Some node → node.fate ≡ forks split k → HasChildren nodes n node.part split k
+  pub children : (n : ℕ) (node : Node) (split : Split) (k : ℕ) → slice_get nodes n ≡ Some node
+      → node.fate ≡ forks split k → HasChildren nodes n node.part split k
   pub cover : (x : List ℕ) → sum_by (share x) nodes ≡ indicator (in_part (part_at nodes 0) x)
   pub sum : sum_by leaf_points nodes ≡ points (part_at nodes 0)
   pub number : length nodes ≡ 2 * splits_of nodes + 1
@@ -153,4 +157,6 @@ pub record IsTree (nodes : List Node) : Type 0 where
 -- the node n of a list and what is below it is this tree
 abbrev pub IsTreeOf : List Node → ℕ → SplitTree → Type 0
 IsTreeOf nodes n (tip leaf) = (node : Node) × (slice_get nodes n ≡ Some node) × (node.fate ≡ ends leaf)
-IsTreeOf nodes n (fork split first second) = (node : Node) × (k : ℕ) × (slice_get nodes n ≡ Some node) × (node.fate ≡ forks split k) × IsTreeOf nodes k first × IsTreeOf nodes (k + 1) second
+IsTreeOf nodes n (fork split first second) =
+    (node : Node) × (k : ℕ) × (slice_get nodes n ≡ Some node) × (node.fate ≡ forks split k) × IsTreeOf nodes k first
+    × IsTreeOf nodes (k + 1) second

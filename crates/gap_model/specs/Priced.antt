@@ -32,8 +32,12 @@ pub record PricedProblem : Type 0 where
 -- what a leaf shows on a part, by the least of its Lagrangian over the part's lists that hold a number of assets in range
 unfoldable pub priced_shows : PricedProblem → List Cell → Leaf → Shown
 priced_shows p part Count = count_shows (can_meet part p.fewest p.most)
-priced_shows p part (Void alpha tau third) = cond (p.says (Void alpha tau third)) (void_shows (least_value (p.price (Void alpha tau third)) (picks part p.fewest p.most))) Nothing
-priced_shows p part (Tangent y alpha tau third) = cond (p.says (Tangent y alpha tau third)) (tangent_shows (least_value (p.price (Tangent y alpha tau third)) (picks part p.fewest p.most))) Nothing
+priced_shows p part (Void alpha tau third) =
+    cond (p.says (Void alpha tau third))
+    (void_shows (least_value (p.price (Void alpha tau third)) (picks part p.fewest p.most))) Nothing
+priced_shows p part (Tangent y alpha tau third) =
+    cond (p.says (Tangent y alpha tau third))
+    (tangent_shows (least_value (p.price (Tangent y alpha tau third)) (picks part p.fewest p.most))) Nothing
 
 -- the problem of a priced one
 abbrev pub problem_of : PricedProblem → Problem
@@ -81,10 +85,13 @@ pub record IsPriced (p : PricedProblem) : Type 0 where
   pub picked : (x : List ℕ) → p.meets x ≡ true → IsPick p.whole p.fewest p.most x
   pub sizes : (x : List ℕ) → p.meets x ≡ true → unsigned_abs (p.cost x) ≤ 1000000000000000000000000000000
   pub counts : p.in_range Count ≡ true
-  pub below : (leaf : Leaf) (x : List ℕ) → is_tangent leaf ≡ true → IsSaid p leaf → p.meets x ≡ true → p.price leaf x ≤ℤ (pos 64 *ℤ p.cost x)
+  pub below : (leaf : Leaf) (x : List ℕ) → is_tangent leaf ≡ true → IsSaid p leaf → p.meets x ≡ true
+      → p.price leaf x ≤ℤ (pos 64 *ℤ p.cost x)
   pub paid : (leaf : Leaf) (x : List ℕ) → is_void leaf ≡ true → IsSaid p leaf → p.meets x ≡ true → p.price leaf x ≤ℤ pos 0
   pub exact : (leaf : Leaf) (x : List ℕ) → p.meets x ≡ true → IsTangentAt x leaf → IsExactAt p x leaf
-  pub charged : (x : List ℕ) → IsPick p.whole p.fewest p.most x → p.meets x ≡ false → (third : ℤ) × (Charges p x (Void (pos 1) (pos 0) third) ⊎ Charges p x (Void (negsuc 0) (pos 0) third) ⊎ Charges p x (Void (pos 0) (pos 1) third))
+  pub charged : (x : List ℕ) → IsPick p.whole p.fewest p.most x → p.meets x ≡ false
+      → (third : ℤ) × (Charges p x (Void (pos 1) (pos 0) third) ⊎ Charges p x (Void (negsuc 0) (pos 0) third)
+      ⊎ Charges p x (Void (pos 0) (pos 1) third))
 
 -- the Lagrangian of a leaf of the tangent bound; a third multiplier says nothing there
 abbrev pub tangent_price : Setting → Leaf → List ℕ → ℤ

@@ -62,10 +62,16 @@ pub record ShowsExactly (p : Problem) (part : List Cell) (leaf : Leaf) (value : 
 pub record IsBound (p : Problem) : Type 0 where
   pub range : p.fewest ≤ p.most
   pub picked : (x : List ℕ) → p.meets x ≡ true → IsPick p.whole p.fewest p.most x
-  pub below : (part : List Cell) (leaf : Leaf) (x : List ℕ) → IsPart p part → p.in_range leaf ≡ true → IsTrue (in_part part x) → p.meets x ≡ true → ShownLe (p.shows part leaf) (AtLeast (p.cost x))
-  pub narrower : (part : List Cell) (leaf : Leaf) (split : Split) (side : Side) → IsPart p part → p.in_range leaf ≡ true → IsTrue (lawful_split part split) → ShownLe (p.shows part leaf) (p.shows (child_cells part split side) leaf)
-  pub exact : (part : List Cell) (leaf : Leaf) (x : List ℕ) → IsPart p part → IsSingle part p.fewest p.most x → p.meets x ≡ true → IsTangentAt x leaf → ShowsExactly p part leaf (p.cost x)
-  pub empty : (part : List Cell) (x : List ℕ) → IsPart p part → IsSingle part p.fewest p.most x → p.meets x ≡ false → (third : ℤ) × (ShowsEmpty p part (Void (pos 1) (pos 0) third) ⊎ ShowsEmpty p part (Void (negsuc 0) (pos 0) third) ⊎ ShowsEmpty p part (Void (pos 0) (pos 1) third))
+  pub below : (part : List Cell) (leaf : Leaf) (x : List ℕ) → IsPart p part → p.in_range leaf ≡ true
+      → IsTrue (in_part part x) → p.meets x ≡ true → ShownLe (p.shows part leaf) (AtLeast (p.cost x))
+  pub narrower : (part : List Cell) (leaf : Leaf) (split : Split) (side : Side) → IsPart p part
+      → p.in_range leaf ≡ true → IsTrue (lawful_split part split)
+      → ShownLe (p.shows part leaf) (p.shows (child_cells part split side) leaf)
+  pub exact : (part : List Cell) (leaf : Leaf) (x : List ℕ) → IsPart p part → IsSingle part p.fewest p.most x
+      → p.meets x ≡ true → IsTangentAt x leaf → ShowsExactly p part leaf (p.cost x)
+  pub empty : (part : List Cell) (x : List ℕ) → IsPart p part → IsSingle part p.fewest p.most x → p.meets x ≡ false
+      → (third : ℤ) × (ShowsEmpty p part (Void (pos 1) (pos 0) third)
+      ⊎ ShowsEmpty p part (Void (negsuc 0) (pos 0) third) ⊎ ShowsEmpty p part (Void (pos 0) (pos 1) third))
   pub uncounted : (part : List Cell) → IsPart p part → can_meet part p.fewest p.most ≡ false → ShowsEmpty p part Count
   pub sizes : (x : List ℕ) → p.meets x ≡ true → unsigned_abs (p.cost x) ≤ 1000000000000000000000000000000
 

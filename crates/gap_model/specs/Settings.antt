@@ -18,7 +18,8 @@ shifted_cov s i j = cov_of s.instance.market i j +ℤ (if j == i then at s.shift
 
 -- v'Aw: the sum of A_ij v_i w_j over all pairs of assets
 unfoldable pub product_of : Setting → (ℕ → ℤ) → (ℕ → ℤ) → ℤ
-product_of s v w = sum_below s.instance.market.assets (λ i. sum_below s.instance.market.assets (λ j. shifted_cov s i j *ℤ v i *ℤ w j))
+product_of s v w =
+    sum_below s.instance.market.assets (λ i. sum_below s.instance.market.assets (λ j. shifted_cov s i j *ℤ v i *ℤ w j))
 
 -- what a tangent bound needs: the instance's facts, a weight in its range, D in its range for each asset, and that
 -- v'Av isn't negative for any list v

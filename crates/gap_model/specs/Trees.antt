@@ -15,7 +15,9 @@ pub data SplitTree : Type 0 where
 -- a tree is well formed at a part: each split is lawful at its part, and each side stands at the child of it
 abbrev pub IsFormedAt : List Cell → SplitTree → Type 0
 IsFormedAt part (tip leaf) = Unit {0}
-IsFormedAt part (fork split first second) = IsTrue (lawful_split part split) × IsFormedAt (child_cells part split First) first × IsFormedAt (child_cells part split Second) second
+IsFormedAt part (fork split first second) =
+    IsTrue (lawful_split part split) × IsFormedAt (child_cells part split First) first
+    × IsFormedAt (child_cells part split Second) second
 
 -- how many splits a tree has
 abbrev pub tree_splits : SplitTree → ℕ
@@ -30,4 +32,5 @@ pub record PartLeaf : Type 0 where
 -- the leaves of a tree at a part, with their parts, the first side's before the second's
 abbrev pub tree_leaves : List Cell → SplitTree → List PartLeaf
 tree_leaves part (tip leaf) = record { part = part; leaf = leaf } ∷ []
-tree_leaves part (fork split first second) = tree_leaves (child_cells part split First) first ++ tree_leaves (child_cells part split Second) second
+tree_leaves part (fork split first second) =
+    tree_leaves (child_cells part split First) first ++ tree_leaves (child_cells part split Second) second

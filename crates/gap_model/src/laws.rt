@@ -35,24 +35,36 @@ pub fn shown_order()
 /// Theta is the least of the Lagrangian over the lists of a part that hold from K1 to K2 assets: some such list has it and
 /// none has less. There is none exactly where the count can't be met. The same holds of the terms with alpha and tau alone.
 pub fn theta_is_least()
-    ensures least { (s : Setting) (cells : List Cell) (y : ℕ → ℤ) (alpha tau t : ℤ) → (theta s cells y alpha tau ≡ Some t) ↔ IsTheta s cells y alpha tau t }
-    ensures none { (s : Setting) (cells : List Cell) (y : ℕ → ℤ) (alpha tau : ℤ) → AreCells cells → s.instance.held ≤ s.instance.held_most → (theta s cells y alpha tau ≡ None) ↔ (can_meet cells s.instance.held s.instance.held_most ≡ false) }
-    ensures void_least { (s : Setting) (cells : List Cell) (alpha tau t : ℤ) → (void_theta s cells alpha tau ≡ Some t) ↔ IsVoidTheta s cells alpha tau t }
-    ensures void_none { (s : Setting) (cells : List Cell) (alpha tau : ℤ) → AreCells cells → s.instance.held ≤ s.instance.held_most → (void_theta s cells alpha tau ≡ None) ↔ (can_meet cells s.instance.held s.instance.held_most ≡ false) }
+    ensures least { (s : Setting) (cells : List Cell) (y : ℕ → ℤ) (alpha tau t : ℤ)
+        → (theta s cells y alpha tau ≡ Some t) ↔ IsTheta s cells y alpha tau t }
+    ensures none { (s : Setting) (cells : List Cell) (y : ℕ → ℤ) (alpha tau : ℤ) → AreCells cells
+        → s.instance.held ≤ s.instance.held_most
+        → (theta s cells y alpha tau ≡ None) ↔ (can_meet cells s.instance.held s.instance.held_most ≡ false) }
+    ensures void_least { (s : Setting) (cells : List Cell) (alpha tau t : ℤ)
+        → (void_theta s cells alpha tau ≡ Some t) ↔ IsVoidTheta s cells alpha tau t }
+    ensures void_none { (s : Setting) (cells : List Cell) (alpha tau : ℤ) → AreCells cells
+        → s.instance.held ≤ s.instance.held_most
+        → (void_theta s cells alpha tau ≡ None) ↔ (can_meet cells s.instance.held s.instance.held_most ≡ false) }
 {}
 
 /// The Lagrangian is at most 64 times the objective of each list that meets the limits, and is exactly that at Y = 8x
 /// with multipliers 0. The terms with alpha and tau alone aren't positive for such a list.
 pub fn lagrangian_bounds()
-    ensures below { (s : Setting) (y : ℕ → ℤ) (alpha tau : ℤ) (x : List ℕ) → IsSetting s → pos 0 ≤ℤ tau → MeetsLimits s.instance x → lag s y alpha tau x ≤ℤ (pos 64 *ℤ objective s.instance s.p s.q x) }
-    ensures exact { (s : Setting) (y : ℕ → ℤ) (x : List ℕ) → ((i : ℕ) → i < s.instance.market.assets → y i ≡ pos 8 *ℤ lots_at x i) → lag s y (pos 0) (pos 0) x ≡ (pos 64 *ℤ objective s.instance s.p s.q x) }
-    ensures void { (s : Setting) (alpha tau : ℤ) (x : List ℕ) → pos 0 ≤ℤ tau → MeetsLimits s.instance x → void_lag s alpha tau x ≤ℤ pos 0 }
+    ensures below { (s : Setting) (y : ℕ → ℤ) (alpha tau : ℤ) (x : List ℕ) → IsSetting s → pos 0 ≤ℤ tau
+        → MeetsLimits s.instance x → lag s y alpha tau x ≤ℤ (pos 64 *ℤ objective s.instance s.p s.q x) }
+    ensures exact { (s : Setting) (y : ℕ → ℤ) (x : List ℕ)
+        → ((i : ℕ) → i < s.instance.market.assets → y i ≡ pos 8 *ℤ lots_at x i)
+        → lag s y (pos 0) (pos 0) x ≡ (pos 64 *ℤ objective s.instance s.p s.q x) }
+    ensures void { (s : Setting) (alpha tau : ℤ) (x : List ℕ) → pos 0 ≤ℤ tau → MeetsLimits s.instance x
+        → void_lag s alpha tau x ≤ℤ pos 0 }
 {}
 
 /// No number of lots beyond the assets is read: the Lagrangian and theta depend on Y at the assets alone.
 pub fn theta_reads_assets()
-    ensures lagrangian { (s : Setting) (y z : ℕ → ℤ) (alpha tau : ℤ) (x : List ℕ) → ((i : ℕ) → i < s.instance.market.assets → y i ≡ z i) → lag s y alpha tau x ≡ lag s z alpha tau x }
-    ensures least { (s : Setting) (cells : List Cell) (y z : ℕ → ℤ) (alpha tau : ℤ) → ((i : ℕ) → i < s.instance.market.assets → y i ≡ z i) → theta s cells y alpha tau ≡ theta s cells z alpha tau }
+    ensures lagrangian { (s : Setting) (y z : ℕ → ℤ) (alpha tau : ℤ) (x : List ℕ)
+        → ((i : ℕ) → i < s.instance.market.assets → y i ≡ z i) → lag s y alpha tau x ≡ lag s z alpha tau x }
+    ensures least { (s : Setting) (cells : List Cell) (y z : ℕ → ℤ) (alpha tau : ℤ)
+        → ((i : ℕ) → i < s.instance.market.assets → y i ≡ z i) → theta s cells y alpha tau ≡ theta s cells z alpha tau }
 {}
 
 /// The test of the limits decides them, and the tangent bound keeps the laws of bounds.
@@ -67,20 +79,30 @@ pub fn tangent_bound_is_lawful()
 pub fn priced_bound_is_lawful()
     ensures laws { (p : PricedProblem) → IsPriced p → IsBound (problem_of p) }
     ensures tangent { (s : Setting) → IsSetting s → IsPriced (tangent_prices s) }
-    ensures shown { (s : Setting) (part : List Cell) (leaf : Leaf) → priced_shows (tangent_prices s) part leaf ≡ shows s part leaf }
+    ensures shown { (s : Setting) (part : List Cell) (leaf : Leaf)
+        → priced_shows (tangent_prices s) part leaf ≡ shows s part leaf }
 {}
 
 /// Over a part of the root and with multipliers in range, theta and void theta are at most `most_theta` in size, below
 /// 10^37, and the number that a leaf in range shows is at most `most_bound`, below 10^36.
 pub fn leaf_sizes()
-    ensures theta { (s : Setting) (part : List Cell) (y : List Entry) (alpha tau t : ℤ) → IsSetting s → IsWithin part (root_cells s.instance.least s.instance.greatest) → sum_by (λ (e : Entry). e.eighths) y ≤ 8 * s.instance.lots → AreMultipliers s.instance.turnover alpha tau → theta s part (eighths_at y) alpha tau ≡ Some t → unsigned_abs t ≤ most_theta }
-    ensures void_theta { (s : Setting) (part : List Cell) (alpha tau t : ℤ) → IsSetting s → IsWithin part (root_cells s.instance.least s.instance.greatest) → AreMultipliers s.instance.turnover alpha tau → void_theta s part alpha tau ≡ Some t → unsigned_abs t ≤ most_theta }
-    ensures shown { (s : Setting) (part : List Cell) (leaf : Leaf) (v : ℤ) → IsSetting s → IsWithin part (root_cells s.instance.least s.instance.greatest) → in_range s leaf ≡ true → shows s part leaf ≡ AtLeast v → unsigned_abs v ≤ most_bound }
+    ensures theta { (s : Setting) (part : List Cell) (y : List Entry) (alpha tau t : ℤ) → IsSetting s
+        → IsWithin part (root_cells s.instance.least s.instance.greatest)
+        → sum_by (λ (e : Entry). e.eighths) y ≤ 8 * s.instance.lots → AreMultipliers s.instance.turnover alpha tau
+        → theta s part (eighths_at y) alpha tau ≡ Some t → unsigned_abs t ≤ most_theta }
+    ensures void_theta { (s : Setting) (part : List Cell) (alpha tau t : ℤ) → IsSetting s
+        → IsWithin part (root_cells s.instance.least s.instance.greatest)
+        → AreMultipliers s.instance.turnover alpha tau → void_theta s part alpha tau ≡ Some t
+        → unsigned_abs t ≤ most_theta }
+    ensures shown { (s : Setting) (part : List Cell) (leaf : Leaf) (v : ℤ) → IsSetting s
+        → IsWithin part (root_cells s.instance.least s.instance.greatest) → in_range s leaf ≡ true
+        → shows s part leaf ≡ AtLeast v → unsigned_abs v ≤ most_bound }
 {}
 
 /// The tests of the multipliers and of the entries of a leaf decide whether they are in range.
 pub fn ranges_are_decided()
-    ensures multipliers { (turnover : Option ℕ) (alpha tau : ℤ) → (are_multipliers turnover alpha tau ≡ true) ↔ AreMultipliers turnover alpha tau }
+    ensures multipliers { (turnover : Option ℕ) (alpha tau : ℤ)
+        → (are_multipliers turnover alpha tau ≡ true) ↔ AreMultipliers turnover alpha tau }
     ensures entries { (n : ℕ) (y : List Entry) → (ascend 0 n y ≡ true) ↔ AreEntries n y }
 {}
 

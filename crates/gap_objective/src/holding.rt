@@ -128,7 +128,8 @@ impl<'m> Holding<'m> {
         requires second { j < self.now.instance.market.assets }
         requires from { lots ≤ slice_index_or self.now.lots i 0 }
         requires to { slice_index_or self.now.lots j 0 + lots ≤ 10000 }
-        ensures { result ≡ objective self.now.instance self.now.weight.p self.now.weight.q (lots_shifted self.now.lots i j lots) }
+        ensures { result ≡ objective self.now.instance self.now.weight.p self.now.weight.q
+            (lots_shifted self.now.lots i j lots) }
     {
         self.shifted_value(i, j, i32::from(lots))
     }
@@ -151,7 +152,10 @@ impl<'m> Holding<'m> {
         requires moved { unsigned_abs moved ≤ 10000 }
         ensures instance { IsInstance self.now.instance }
         ensures lots { AreBetween self.now.instance.market.assets 0 10000 self.now.lots }
-        ensures value { result ≡ objective self.now.instance self.now.weight.p self.now.weight.q self.now.lots +ℤ ((slope_of self.now.instance self.now.weight.p self.now.weight.q self.now.lots j -ℤ slope_of self.now.instance self.now.weight.p self.now.weight.q self.now.lots i) +ℤ (pos self.now.weight.p *ℤ spread_of self.now.instance.market i j) *ℤ moved) *ℤ moved }
+        ensures value { result ≡ objective self.now.instance self.now.weight.p self.now.weight.q self.now.lots
+            +ℤ ((slope_of self.now.instance self.now.weight.p self.now.weight.q self.now.lots j
+            -ℤ slope_of self.now.instance self.now.weight.p self.now.weight.q self.now.lots i)
+            +ℤ (pos self.now.weight.p *ℤ spread_of self.now.instance.market i j) *ℤ moved) *ℤ moved }
     {
         let spread = spread(
             self.inst.cov(i, i),

@@ -140,13 +140,19 @@ pub record IsMissing (ts : List Token) (i j : ℕ) : Type 0 where
   pub in_order : low < high
   pub there : high < assets
   pub never : (t : ℕ) (v : ℤ) → NamesPair ts assets t low high v → ⊥
-  pub first : (a b : ℕ) → a < b → b < assets → (a < low) ⊎ ((a ≡ low) × (b < high)) → (t : ℕ) × (v : ℤ) × NamesPair ts assets t a b v
+  pub first : (a b : ℕ) → a < b → b < assets → (a < low) ⊎ ((a ≡ low) × (b < high))
+      → (t : ℕ) × (v : ℤ) × NamesPair ts assets t a b v
 
 -- the bytes have this fault at their end, of this many bytes, or a token is at fault. Own to portgap.
 abbrev pub IsFaultBy : PortKind → List ℕ → PortFault → Type 0
-IsFaultBy Short bytes f = (f.place ≡ length bytes) × (length bytes ≤ limit) × AreSound (tokens bytes) (length (tokens bytes)) × IsCut (tokens bytes)
-IsFaultBy (Missing i j) bytes f = (f.place ≡ length bytes) × (length bytes ≤ limit) × AreSound (tokens bytes) (length (tokens bytes)) × IsMissing (tokens bytes) i j
-IsFaultBy TooLong bytes f = (f.place ≡ limit) × (limit < length bytes) × AreSound (kept (tokens bytes)) (length (kept (tokens bytes)))
+IsFaultBy Short bytes f =
+    (f.place ≡ length bytes) × (length bytes ≤ limit) × AreSound (tokens bytes) (length (tokens bytes))
+    × IsCut (tokens bytes)
+IsFaultBy (Missing i j) bytes f =
+    (f.place ≡ length bytes) × (length bytes ≤ limit) × AreSound (tokens bytes) (length (tokens bytes))
+    × IsMissing (tokens bytes) i j
+IsFaultBy TooLong bytes f =
+    (f.place ≡ limit) × (limit < length bytes) × AreSound (kept (tokens bytes)) (length (kept (tokens bytes)))
 IsFaultBy _ bytes f = IsTokenFault (kept (tokens bytes)) f
 
 -- the first fault of the bytes. Own to portgap.

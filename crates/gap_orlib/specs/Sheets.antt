@@ -82,7 +82,10 @@ unfoldable pub deviation_told : Sheet → ℕ → Rounded → Result Sheet PortK
 deviation_told s k r =
     if is_negative r.value then Err BelowZero
     else (if is_unit_size r.value
-    then Ok (record s { market = counted r.exact (with_deviation s.market k (unsigned_abs r.value)); next = behind_deviation s.market.assets k })
+    then Ok (record s {
+      market = counted r.exact (with_deviation s.market k (unsigned_abs r.value));
+      next = behind_deviation s.market.assets k;
+    })
     else Err Range)
 
 -- what the number of a triple's first asset says. Own to portgap.

@@ -96,14 +96,16 @@ Tells (Err OutOfMemory) r = Unit {0}
 abbrev pub behind_separator : ℕ → Result (Option Sheet) PortFault → State
 behind_separator place (Err f) = stopped f
 behind_separator place (Ok s) =
-    if nat_lt place limit then going (record { begin = place + 1; tail = []; sheet = s }) else stopped (fault_at limit TooLong)
+    if nat_lt place limit then going (record { begin = place + 1; tail = []; sheet = s }) else stopped
+    (fault_at limit TooLong)
 
 -- where a reader that goes on stands after one byte more. Own to portgap.
 abbrev pub going_after : Going → ℕ → State
 going_after g b =
     if is_separator b
     then behind_separator (g.begin + length g.tail) (with_last g.begin g.tail g.sheet)
-    else (if nat_lt (g.begin + length g.tail) limit then going (record g { tail = g.tail ++ b ∷ [] }) else stopped (fault_at limit TooLong))
+    else (if nat_lt (g.begin + length g.tail) limit then going (record g { tail = g.tail ++ b ∷ [] }) else stopped
+    (fault_at limit TooLong))
 
 -- where a reader stands after one byte more. Own to portgap.
 abbrev pub after_byte : State → ℕ → State

@@ -14,7 +14,8 @@ ghost use Rattle.gap_orlib.specs.Faults.{IsFaultOf, IsAtFault};
 /// and bytes have one first fault alone; no token has two kinds of fault.
 pub fn ports_are_read_as_said()
     ensures market { (bytes : List ℕ) (m : MarketValue) → port bytes ≡ Ok m → IsMarketOf bytes m }
-    ensures read { (bytes : List ℕ) (m : MarketValue) → IsMarketOf bytes m → (k : MarketValue) × (port bytes ≡ Ok k) × HaveSameValues k m }
+    ensures read { (bytes : List ℕ) (m : MarketValue) → IsMarketOf bytes m
+        → (k : MarketValue) × (port bytes ≡ Ok k) × HaveSameValues k m }
     ensures fault { (bytes : List ℕ) (f : PortFault) → (port bytes ≡ Err f) ↔ IsFaultOf bytes f }
     ensures one_fault { (bytes : List ℕ) (f g : PortFault) → IsFaultOf bytes f → IsFaultOf bytes g → f ≡ g }
     ensures one_kind { (ts : List Token) (k : ℕ) (a b : PortKind) → IsAtFault ts k a → IsAtFault ts k b → a ≡ b }

@@ -68,7 +68,8 @@ impl Reader {
     pub fn feed(&mut self, piece: &[u8]) -> Result<(), PortStop>
         ensures read { (fed : List ℕ) → HasRead self.old fed → HasRead self.new (fed ++ piece.now) }
         ensures answer { result ≡ answer_of self.new }
-        ensures decided { (fed more : List ℕ) (f : PortFault) → HasRead self.old fed → result ≡ Err (PortStop.Fault f) → port (fed ++ piece.now ++ more) ≡ Err f }
+        ensures decided { (fed more : List ℕ) (f : PortFault) → HasRead self.old fed → result ≡ Err (PortStop.Fault f)
+            → port (fed ++ piece.now ++ more) ≡ Err f }
         ensures stuck { IsStopped self.old → self.new ≡ self.old }
     {
         match self.stop {
@@ -96,8 +97,10 @@ impl Reader {
     pub fn finish(self) -> Result<Market, PortStop>
         ensures market { (fed : List ℕ) → HasRead self fed → Tells result (port fed) }
         ensures words { (fed : List ℕ) → HasRead self fed → IfOk result (IsMarketOf fed) }
-        ensures accepts { (fed : List ℕ) (m : MarketValue) → HasRead self fed → IsMarketOf fed m → IsOk result ⊎ (result ≡ Err PortStop.OutOfMemory) }
-        ensures faults { (fed : List ℕ) (f : PortFault) → HasRead self fed → result ≡ Err (PortStop.Fault f) → IsFaultOf fed f }
+        ensures accepts { (fed : List ℕ) (m : MarketValue) → HasRead self fed → IsMarketOf fed m
+            → IsOk result ⊎ (result ≡ Err PortStop.OutOfMemory) }
+        ensures faults { (fed : List ℕ) (f : PortFault) → HasRead self fed → result ≡ Err (PortStop.Fault f)
+            → IsFaultOf fed f }
         ensures memory { (result ≡ Err PortStop.OutOfMemory) ↔ (self ≡ no_memory) }
     {
         let Reader {

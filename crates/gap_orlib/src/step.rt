@@ -73,7 +73,8 @@ fn next(
     b: u8,
 ) -> Result<(), PortStop>
     requires { IsOn begin.old tail.old.items table.old }
-    ensures told { NextIs result (record { begin = begin.new; tail = tail.new.items; sheet = table.new }) (going_after (record { begin = begin.old; tail = tail.old.items; sheet = table.old }) b) }
+    ensures told { NextIs result (record { begin = begin.new; tail = tail.new.items; sheet = table.new })
+        (going_after (record { begin = begin.old; tail = tail.old.items; sheet = table.old }) b) }
     ensures on { IfOk result (λ _. IsOn begin.new tail.new.items table.new) }
 {
     let place = *begin + tail.len() as u64;
@@ -107,7 +108,8 @@ pub fn read_piece(
     piece: &[u8],
 ) -> Result<(), PortStop>
     requires { IsOn begin.old tail.old.items table.old }
-    ensures told { NextIs result (record { begin = begin.new; tail = tail.new.items; sheet = table.new }) (over (going (record { begin = begin.old; tail = tail.old.items; sheet = table.old })) piece.now) }
+    ensures told { NextIs result (record { begin = begin.new; tail = tail.new.items; sheet = table.new })
+        (over (going (record { begin = begin.old; tail = tail.old.items; sheet = table.old })) piece.now) }
     ensures on { IfOk result (λ _. IsOn begin.new tail.new.items table.new) }
 {
     for b in piece {

@@ -140,7 +140,8 @@ impl Table {
     fn fresh(alloc: Global, n: u16) -> Result<Table, PortStop>
         requires few { 2 ≤ n }
         requires many { n ≤ 256 }
-        ensures told { IfOk result (λ s. s ≡ record { market = fresh_market n; seen = replicate (n * n) false; next = Mean 0 }) }
+        ensures told { IfOk result
+            (λ s. s ≡ record { market = fresh_market n; seen = replicate (n * n) false; next = Mean 0 }) }
         ensures memory { IfErr result (λ e. e ≡ PortStop.OutOfMemory) }
     {
         let Ok(market) = Market::new(alloc, n) else {

@@ -30,10 +30,18 @@ pub record CurveValue : Type 0 where
 
 -- the same from the values that code hands in
 abbrev pub costs_with : Costs → CostsValue
-costs_with c = record { linear = c.linear.now; bends = c.bends.now; present = c.present.now; lot_price = c.lot_price; distance_price = c.distance_price }
+costs_with c =
+    record {
+      linear = c.linear.now;
+      bends = c.bends.now;
+      present = c.present.now;
+      lot_price = c.lot_price;
+      distance_price = c.distance_price;
+    }
 
 abbrev pub curve_with : Costs → Varied → List Cell → ℕ → ℕ → CurveValue
-curve_with c varied cells fewest most = record { costs = costs_with c; varied = varied; cells = cells; fewest = fewest; most = most }
+curve_with c varied cells fewest most =
+    record { costs = costs_with c; varied = varied; cells = cells; fewest = fewest; most = most }
 
 -- the price that varies
 abbrev pub price_by : Varied → CostsValue → ℤ
@@ -62,5 +70,6 @@ varied_price c = price_by c.varied c.costs
 
 -- a value and a slope at a multiplier: they are the cost and the weight of one of the lists, and no such list costs less
 pub record IsLeastAt (c : CurveValue) (multiplier value slope : ℤ) : Type 0 where
-  pub reached : (x : List ℕ) × IsPick c.cells c.fewest c.most x × ((costs_of c x +ℤ multiplier *ℤ weights_of c x) ≡ value) × (weights_of c x ≡ slope)
+  pub reached : (x : List ℕ) × IsPick c.cells c.fewest c.most x
+      × ((costs_of c x +ℤ multiplier *ℤ weights_of c x) ≡ value) × (weights_of c x ≡ slope)
   pub below : (x : List ℕ) → IsPick c.cells c.fewest c.most x → value ≤ℤ (costs_of c x +ℤ multiplier *ℤ weights_of c x)

@@ -19,7 +19,13 @@ between l u b = if ltb b l then l else if ltb u b then u else b
 
 -- what none, l, u and the present lots brought between them cost without the multiplier
 abbrev pub candidates_between : CostsValue → ℕ → ℕ → ℕ → Candidates
-candidates_between c i l u = record { none = cost_of c i (pos 0); first = cost_of c i (pos l); last = cost_of c i (pos u); middle = cost_of c i (pos (between l u (slice_index_or c.present i 0))) }
+candidates_between c i l u =
+    record {
+      none = cost_of c i (pos 0);
+      first = cost_of c i (pos l);
+      last = cost_of c i (pos u);
+      middle = cost_of c i (pos (between l u (slice_index_or c.present i 0)));
+    }
 
 -- what none and the places of a cell's range cost at which its cost can be least, without the multiplier
 abbrev pub candidates_of : CostsValue → ℕ → Cell → Candidates
@@ -60,7 +66,9 @@ cheaper a b = if int_lt b.value a.value then b else a
 
 -- the cheapest offer of l to u lots of the asset i
 abbrev pub cheapest : CurveValue → ℤ → ℕ → ℕ → ℕ → Offer
-cheapest c multiplier i l u = cheaper (cheaper (offer_of c multiplier i l) (offer_of c multiplier i u)) (offer_of c multiplier i (between l u (slice_index_or c.costs.present i 0)))
+cheapest c multiplier i l u =
+    cheaper (cheaper (offer_of c multiplier i l) (offer_of c multiplier i u))
+    (offer_of c multiplier i (between l u (slice_index_or c.costs.present i 0)))
 
 -- the cheapest offer of a cell that can be held; nothing of one that is out
 abbrev pub least_offer : CurveValue → ℤ → ℕ → Cell → Offer
@@ -82,7 +90,8 @@ abbrev pub out_weight : CurveValue → ℤ → ℕ → ℤ
 out_weight c multiplier i = (offer_of c multiplier i 0).weight
 
 -- tables of what the assets of the first places cost at the multiplier, held and not, and of what that weighs
-pub record AreTabled (c : CurveValue) (multiplier : ℤ) (count : ℕ) (held out held_weights out_weights : List ℤ) : Type 0 where
+pub record AreTabled (c : CurveValue) (multiplier : ℤ) (count : ℕ) (held out held_weights out_weights : List ℤ) : Type
+    0 where
   pub held_are : (i : ℕ) → i < count → at held i ≡ held_value c multiplier i
   pub out_are : (i : ℕ) → i < count → at out i ≡ out_value c multiplier i
   pub held_weigh : (i : ℕ) → i < count → at held_weights i ≡ held_weight c multiplier i

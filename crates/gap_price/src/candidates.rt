@@ -43,9 +43,11 @@ fn between_ends(asset: &AssetCost, l: u16, u: u16, present: u16) -> Candidates
     requires order { l ≤ u }
     requires most { u ≤ 10000 }
     ensures none { result.none ≡ asset_cost asset.now.linear asset.now.bend asset.now.price (pos asset.now.present) (pos 0) }
-    ensures first { result.first ≡ asset_cost asset.now.linear asset.now.bend asset.now.price (pos asset.now.present) (pos l) }
+    ensures first { result.first
+        ≡ asset_cost asset.now.linear asset.now.bend asset.now.price (pos asset.now.present) (pos l) }
     ensures last { result.last ≡ asset_cost asset.now.linear asset.now.bend asset.now.price (pos asset.now.present) (pos u) }
-    ensures middle { result.middle ≡ asset_cost asset.now.linear asset.now.bend asset.now.price (pos asset.now.present) (pos (between l u present)) }
+    ensures middle { result.middle
+        ≡ asset_cost asset.now.linear asset.now.bend asset.now.price (pos asset.now.present) (pos (between l u present)) }
     ensures small { AreSmall result }
 {
     Candidates {

@@ -118,7 +118,8 @@ impl<'a> CostCurve<'a> {
         requires out_length { length out.old ≡ length self.now.part.now }
         requires held_weights_length { length held_weights.old ≡ length self.now.part.now }
         requires out_weights_length { length out_weights.old ≡ length self.now.part.now }
-        ensures { AreTabled (curve_of self.now) multiplier (length self.now.part.now) held.new out.new held_weights.new out_weights.new }
+        ensures { AreTabled (curve_of self.now) multiplier (length self.now.part.now) held.new out.new
+            held_weights.new out_weights.new }
     {
         for i in 0..self.part.len() {
             let holding = self.held_offer(multiplier, i);

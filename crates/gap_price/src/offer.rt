@@ -76,7 +76,10 @@ pub(crate) fn cheapest(
     requires order { l ≤ u }
     requires most { u ≤ 10000 }
     requires present { present ≤ 10000 }
-    ensures offer { result ≡ cheaper (cheaper (offer_with varied multiplier present candidates.first l) (offer_with varied multiplier present candidates.last u)) (offer_with varied multiplier present candidates.middle (between l u present)) }
+    ensures offer { result ≡ cheaper
+        (cheaper (offer_with varied multiplier present candidates.first l)
+        (offer_with varied multiplier present candidates.last u))
+        (offer_with varied multiplier present candidates.middle (between l u present)) }
     ensures weight_small { unsigned_abs result.weight ≤ 10000 }
 {
     let first = offer_at(candidates.first, multiplier, varied, l, present);

@@ -17,9 +17,12 @@ owed C R j i = pos 1000000000000 *ℤ C i j -ℤ sum_below j (λ k. R i k *ℤ R
 abbrev pub pivot_root : (ℕ → ℕ → ℤ) → (ℕ → ℕ → ℤ) → ℕ → ℕ
 pivot_root C R j = whole_root (unsigned_abs (owed C R j j))
 
--- the entry of column j in row i: 0 above the diagonal, the root on it, and below it what is owed, divided by the root and rounded toward zero
+-- the entry of column j in row i: 0 above the diagonal, the root on it, and below it what is owed, divided by the
+-- root and rounded toward zero
 unfoldable pub wanted : (ℕ → ℕ → ℤ) → (ℕ → ℕ → ℤ) → ℕ → ℕ → ℤ
-wanted C R j i = if nat_lt i j then pos 0 else (if i == j then pos (pivot_root C R j) else int_div (owed C R j i) (pos (pivot_root C R j)))
+wanted C R j i =
+    if nat_lt i j then pos 0
+    else (if i == j then pos (pivot_root C R j) else int_div (owed C R j i) (pos (pivot_root C R j)))
 
 -- how many entries of column j would have a size above 10^15
 unfoldable pub too_large : ℕ → (ℕ → ℕ → ℤ) → (ℕ → ℕ → ℤ) → ℕ → ℕ
@@ -61,11 +64,15 @@ no_factor i k = pos 0
 
 -- each D that the rounded factor needs, with no number above 10^21, has a total of at least that, or of more
 abbrev pub IsAtMostRounded : ℕ → (ℕ → ℕ → ℤ) → ℤ → Type 0
-IsAtMostRounded n C total = (R : ℕ → ℕ → ℤ) (D : ℕ → ℤ) → IsRoundedFactor n C R → AreLeast n C R D → AreSmall n D → total ≤ℤ sum_below n D
+IsAtMostRounded n C total =
+    (R : ℕ → ℕ → ℤ) (D : ℕ → ℤ) → IsRoundedFactor n C R → AreLeast n C R D → AreSmall n D → total ≤ℤ sum_below n D
 
 abbrev pub IsBelowRounded : ℕ → (ℕ → ℕ → ℤ) → ℤ → Type 0
-IsBelowRounded n C total = (R : ℕ → ℕ → ℤ) (D : ℕ → ℤ) → IsRoundedFactor n C R → AreLeast n C R D → AreSmall n D → total <ℤ sum_below n D
+IsBelowRounded n C total =
+    (R : ℕ → ℕ → ℤ) (D : ℕ → ℤ) → IsRoundedFactor n C R → AreLeast n C R D → AreSmall n D → total <ℤ sum_below n D
 
 -- R is the rounded factor, or it is zero and needs less than the rounded factor
 abbrev pub IsChosen : (ℕ → ℕ → ℤ) → ShiftValue → Type 0
-IsChosen C s = IsRoundedFactor s.assets C (r_of s) ⊎ (((i k : ℕ) → i < s.assets → k < s.assets → r_of s i k ≡ pos 0) × IsBelowRounded s.assets C (total_of s))
+IsChosen C s =
+    IsRoundedFactor s.assets C (r_of s)
+    ⊎ (((i k : ℕ) → i < s.assets → k < s.assets → r_of s i k ≡ pos 0) × IsBelowRounded s.assets C (total_of s))

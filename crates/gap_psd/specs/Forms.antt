@@ -1,5 +1,7 @@
--- Quadratic forms over whole numbers, semidefinite and dominant matrices. A matrix is a function of two places, a list of numbers one of one place.
--- Source: linear algebra; a dominant matrix is a symmetric one whose diagonal is in each row at least the sum of the sizes of the others.
+-- Quadratic forms over whole numbers, semidefinite and dominant matrices. A matrix is a function of two places, a
+-- list of numbers one of one place.
+-- Source: linear algebra; a dominant matrix is a symmetric one whose diagonal is in each row at least the sum of the
+-- sizes of the others.
 use Rattle.std.specs.Prelude.{◌≡◌, ℕ, ◌<◌, if◌then◌else◌, ◌==◌, List, length, ℤ, pos, ◌-ℤ◌, ◌*ℤ◌, ◌≤ℤ◌}
 use Rattle.gap_base.specs.Sums.{sum_below, at, abs_z}
 

@@ -1,10 +1,12 @@
--- The shift of a table of covariances C of n assets: a lower triangular matrix R and numbers D on the diagonal. It is dominant where 10^12 (C + diag(D)) - R R' is. Own to portgap.
+-- The shift of a table of covariances C of n assets: a lower triangular matrix R and numbers D on the diagonal. It is
+-- dominant where 10^12 (C + diag(D)) - R R' is. Own to portgap.
 use Rattle.std.specs.Prelude.{◌≡◌, ℕ, ◌+◌, ◌*◌, ◌<◌, ◌≤◌, if◌then◌else◌, ◌==◌, List, length, ℤ, pos, ◌+ℤ◌, ◌-ℤ◌, ◌*ℤ◌, ◌≤ℤ◌, ◌<ℤ◌, unsigned_abs, replicate, slice_set}
 use Rattle.gap_base.specs.declared.row.Row.{Row}
 use Rattle.gap_base.specs.Sums.{sum_below, at, lower}
 use Rattle.gap_psd.specs.Forms.{others, gram, remainder, IsDominant}
 
--- what contracts see of a shift: how many assets it is for, R row by row with n numbers a row (those above the diagonal are not read), and D
+-- what contracts see of a shift: how many assets it is for, R row by row with n numbers a row (those above the
+-- diagonal are not read), and D
 pub record ShiftValue : Type 0 where
   pub assets : ℕ
   pub factor : List ℤ

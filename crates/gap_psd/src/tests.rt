@@ -25,7 +25,8 @@ fn ones(n: u16) -> Lots
 fn job_of(n: u16) -> Job
     requires least { 2 ≤ n }
     requires most { n ≤ 256 }
-    ensures { AreLimits n result.lots result.held result.held_most result.least result.greatest result.present result.turnover }
+    ensures { AreLimits n result.lots result.held result.held_most result.least result.greatest result.present
+        result.turnover }
 {
     Job {
         lots: 1,

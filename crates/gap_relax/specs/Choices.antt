@@ -35,6 +35,8 @@ pub record IsLeastChoice (cells : List Cell) (held_cost out_cost : ℕ → ℤ) 
   pub below : (held : ℕ → Bool) → IsChoice cells fewest most held → least ≤ℤ total (length cells) held_cost out_cost held
 
 -- a value and a slope are those of one way, and no way costs less than the value
-pub record IsLeastWay (cells : List Cell) (held_cost out_cost held_slope out_slope : ℕ → ℤ) (fewest most : ℕ) (value slope : ℤ) : Type 0 where
-  pub reached : (held : ℕ → Bool) × IsChoice cells fewest most held × (total (length cells) held_cost out_cost held ≡ value) × (total (length cells) held_slope out_slope held ≡ slope)
+pub record IsLeastWay (cells : List Cell) (held_cost out_cost held_slope out_slope : ℕ → ℤ) (fewest most : ℕ)
+    (value slope : ℤ) : Type 0 where
+  pub reached : (held : ℕ → Bool) × IsChoice cells fewest most held
+      × (total (length cells) held_cost out_cost held ≡ value) × (total (length cells) held_slope out_slope held ≡ slope)
   pub below : (held : ℕ → Bool) → IsChoice cells fewest most held → value ≤ℤ total (length cells) held_cost out_cost held

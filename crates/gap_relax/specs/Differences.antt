@@ -18,13 +18,16 @@ difference held_cost out_cost i = at held_cost i -ℤ at out_cost i
 unfoldable pub free_differences : ℕ → List Cell → List ℤ → List ℤ → List ℤ
 free_differences zero cells held_cost out_cost = []
 free_differences (suc n) cells held_cost out_cost =
-    free_differences n cells held_cost out_cost ++ (if is_free (cell_at cells n) then difference held_cost out_cost n ∷ [] else [])
+    free_differences n cells held_cost out_cost
+    ++ (if is_free (cell_at cells n) then difference held_cost out_cost n ∷ [] else [])
 
 -- a price parts the free cells that a least way holds from those that it doesn't, and so many of those at the price are held
 pub record IsShare (cells : List Cell) (held_cost out_cost : List ℤ) (fewest most : ℕ) (price : ℤ) (ties : ℕ) : Type 0 where
   pub count : ℕ
-  pub parted : IsParted (length (free_differences (length cells) cells held_cost out_cost)) (fewest - helds cells) (most - helds cells) (at (free_differences (length cells) cells held_cost out_cost)) price count
-  pub ties_are : ties ≡ count - count_if (length (free_differences (length cells) cells held_cost out_cost)) (λ k. int_lt (at (free_differences (length cells) cells held_cost out_cost) k) price)
+  pub parted : IsParted (length (free_differences (length cells) cells held_cost out_cost)) (fewest - helds cells)
+      (most - helds cells) (at (free_differences (length cells) cells held_cost out_cost)) price count
+  pub ties_are : ties ≡ count - count_if (length (free_differences (length cells) cells held_cost out_cost))
+      (λ k. int_lt (at (free_differences (length cells) cells held_cost out_cost) k) price)
 
 -- is a cell held at a price, where so many of the free cells at the price may be?
 abbrev pub holds_at : Cell → ℤ → ℤ → ℕ → Bool
@@ -38,4 +41,6 @@ is_tied cells held_cost out_cost price i = is_free (cell_at cells i) && is_tie p
 
 -- the way that holds the free cells below a price, and the first ones at it
 abbrev pub way : List Cell → List ℤ → List ℤ → ℤ → ℕ → ℕ → Bool
-way cells held_cost out_cost price ties i = holds_at (cell_at cells i) price (difference held_cost out_cost i) (ties - count_if i (is_tied cells held_cost out_cost price))
+way cells held_cost out_cost price ties i =
+    holds_at (cell_at cells i) price (difference held_cost out_cost i)
+    (ties - count_if i (is_tied cells held_cost out_cost price))

@@ -80,7 +80,9 @@ pub fn least_with_slope(
     requires held_flat { AreWithin 20000 held_slope.now }
     requires out_flat { AreWithin 20000 out_slope.now }
     requires order { fewest ≤ most }
-    ensures some { IfSome result (λ c. IsLeastWay part.now (at held_cost.now) (at out_cost.now) (at held_slope.now) (at out_slope.now) fewest most c.value c.slope) }
+    ensures some { IfSome result
+        (λ c. IsLeastWay part.now (at held_cost.now) (at out_cost.now) (at held_slope.now) (at out_slope.now) fewest
+        most c.value c.slope) }
     ensures none { IsNone result ↔ IsFalse (can_meet part.now fewest most) }
     ensures small { IfSome result (λ c. unsigned_abs c.value ≤ 256 * most_cost) }
     ensures slope_small { IfSome result (λ c. unsigned_abs c.slope ≤ 256 * 20000) }
@@ -150,8 +152,12 @@ fn sums_by(
     requires out_slopes { length out_slope.now ≡ length part.now }
     requires held_flat { AreWithin 20000 held_slope.now }
     requires out_flat { AreWithin 20000 out_slope.now }
-    ensures value { result.value ≡ total (length part.now) (at held_cost.now) (at out_cost.now) (way part.now held_cost.now out_cost.now price ties) }
-    ensures slope { result.slope ≡ total (length part.now) (at held_slope.now) (at out_slope.now) (way part.now held_cost.now out_cost.now price ties) }
+    ensures value { result.value
+        ≡ total (length part.now) (at held_cost.now) (at out_cost.now)
+        (way part.now held_cost.now out_cost.now price ties) }
+    ensures slope { result.slope
+        ≡ total (length part.now) (at held_slope.now) (at out_slope.now)
+        (way part.now held_cost.now out_cost.now price ties) }
     ensures value_small { unsigned_abs result.value ≤ 256 * most_cost }
     ensures slope_small { unsigned_abs result.slope ≤ 256 * 20000 }
 {

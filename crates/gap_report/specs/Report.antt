@@ -17,7 +17,9 @@ joined (text ∷ more ∷ texts) = text ++ joined (more ∷ texts)
 
 -- the line of a market: its assets, how many numerals were rounded, and the total of the shift
 unfoldable pub market_line : ℕ → ℕ → ℤ → List ℕ
-market_line n rounded shift = joined (codes "assets " ∷ decimal n ∷ codes " rounded " ∷ decimal rounded ∷ codes " shift " ∷ signed_decimal shift ∷ codes "\n" ∷ [])
+market_line n rounded shift =
+    joined (codes "assets " ∷ decimal n ∷ codes " rounded " ∷ decimal rounded ∷ codes " shift " ∷ signed_decimal shift
+    ∷ codes "\n" ∷ [])
 
 -- the denominator of the objectives that are printed for a weight p/q and a budget of L lots: q * 10^18 * L^2
 abbrev pub denominator : ℕ → ℕ → ℕ
@@ -31,7 +33,9 @@ known_word (Bounded best bound) = codes "open"
 
 -- an objective and a bound over one denominator, not reduced
 unfoldable pub bounds_text : ℤ → ℤ → ℕ → List ℕ
-bounds_text value bound below = joined (codes " objective " ∷ signed_decimal value ∷ codes "/" ∷ decimal below ∷ codes " bound " ∷ signed_decimal bound ∷ codes "/" ∷ decimal below ∷ [])
+bounds_text value bound below =
+    joined (codes " objective " ∷ signed_decimal value ∷ codes "/" ∷ decimal below ∷ codes " bound "
+    ∷ signed_decimal bound ∷ codes "/" ∷ decimal below ∷ [])
 
 -- a bound where no portfolio was found
 unfoldable pub bound_text : ℤ → ℕ → List ℕ
@@ -49,11 +53,16 @@ numbers_text (Bounded best bound) below = found_text best bound below
 
 -- the line of a weight for a budget of L lots, with the number of split nodes
 unfoldable pub weight_line : ℕ → Told → ℕ → List ℕ
-weight_line lots told nodes = joined (codes "weight " ∷ decimal told.weight.p ∷ codes "/" ∷ decimal told.weight.q ∷ codes " " ∷ known_word told.outcome ∷ codes " nodes " ∷ decimal nodes ∷ numbers_text told.outcome (denominator told.weight.q lots) ∷ codes "\n" ∷ [])
+weight_line lots told nodes =
+    joined (codes "weight " ∷ decimal told.weight.p ∷ codes "/" ∷ decimal told.weight.q ∷ codes " "
+    ∷ known_word told.outcome ∷ codes " nodes " ∷ decimal nodes
+    ∷ numbers_text told.outcome (denominator told.weight.q lots) ∷ codes "\n" ∷ [])
 
 -- the same line without the number of split nodes
 unfoldable pub verdict_line : ℕ → Told → List ℕ
-verdict_line lots told = joined (codes "weight " ∷ decimal told.weight.p ∷ codes "/" ∷ decimal told.weight.q ∷ codes " " ∷ known_word told.outcome ∷ numbers_text told.outcome (denominator told.weight.q lots) ∷ codes "\n" ∷ [])
+verdict_line lots told =
+    joined (codes "weight " ∷ decimal told.weight.p ∷ codes "/" ∷ decimal told.weight.q ∷ codes " "
+    ∷ known_word told.outcome ∷ numbers_text told.outcome (denominator told.weight.q lots) ∷ codes "\n" ∷ [])
 
 -- an asset by its number, from 1, with its lots, where it is held
 abbrev pub held_text : ℕ → ℕ → List ℕ
@@ -88,4 +97,7 @@ row_text k p q = joined (codes "row " ∷ decimal k ∷ codes " weight " ∷ dec
 
 -- the line of a row of the frontier
 unfoldable pub front_line : ℕ → ℕ → FrontRow → Bool → List ℕ
-front_line lots k row efficient = joined (row_text k row.weight.p row.weight.q ∷ codes " risk " ∷ fraction_text row.risk (risk_denominator lots) ∷ codes " return " ∷ fraction_text row.ret (return_denominator lots) ∷ codes " " ∷ rank_word efficient ∷ codes "\n" ∷ [])
+front_line lots k row efficient =
+    joined (row_text k row.weight.p row.weight.q ∷ codes " risk " ∷ fraction_text row.risk (risk_denominator lots)
+    ∷ codes " return " ∷ fraction_text row.ret (return_denominator lots) ∷ codes " " ∷ rank_word efficient
+    ∷ codes "\n" ∷ [])

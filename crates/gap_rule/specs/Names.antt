@@ -20,7 +20,8 @@ AreTold (name ∷ names) files = IsSome (files.content name) × AreTold names fi
 abbrev pub AreHeld : List (List ℕ) → (List ℕ → List ℕ) → FilesNow → Type 0
 AreHeld [] holds files = Unit {0}
 AreHeld (name ∷ names) holds files =
-    ((content : Option (List ℕ)) × ((files.content name ≡ Some content) × (holds name ≡ bytes_of content))) × AreHeld names holds files
+    ((content : Option (List ℕ)) × ((files.content name ≡ Some content) × (holds name ≡ bytes_of content)))
+    × AreHeld names holds files
 
 -- the count of read faults of a name rose
 abbrev pub RoseAt : List ℕ → FilesNow → FilesNow → Type 0

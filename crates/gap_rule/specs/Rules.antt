@@ -38,7 +38,8 @@ job_ruling n bytes = refused_as BadJob (job_in n bytes)
 -- the ruling of `quick` over its market: there are enough assets
 abbrev pub quick_ruling : QuickWords → MarketValue → Result Task Refusal
 quick_ruling asked market =
-    if nat_lt market.assets asked.held_most then Err HeldRange else Ok (Quick (work_of market (quick_job market.assets asked)))
+    if nat_lt market.assets asked.held_most then Err HeldRange else Ok
+    (Quick (work_of market (quick_job market.assets asked)))
 
 -- a ruling that goes on with what another one found, where it refused nothing
 abbrev pub After : {A B : Type 0} → Result A Refusal → (A → Result B Refusal → Type 0) → Result B Refusal → Type 0
@@ -50,7 +51,8 @@ abbrev pub RulesJob : MarketValue → List ℕ → Result Task Refusal → Type 
 RulesJob market bytes = After (job_ruling market.assets bytes) (λ job r. r ≡ Ok (Solve (work_of market job)))
 
 -- a ruling that goes on with what a first one found that holds of more than one value, where that refused nothing
-pub record GoesOn {A B : Type 0} (first : Result A Refusal → Type 0) (next : A → Result B Refusal → Type 0) (r : Result B Refusal) : Type 0 where
+pub record GoesOn {A B : Type 0} (first : Result A Refusal → Type 0) (next : A → Result B Refusal → Type 0)
+    (r : Result B Refusal) : Type 0 where
   pub found : Result A Refusal
   pub holds : first found
   pub after : After found next r
@@ -84,7 +86,8 @@ Rules faulty holds = λ r. r ≡ Err Words
 Rules (quick port asked) holds = After (market_ruling (holds port)) (λ market r. r ≡ quick_ruling asked market)
 Rules (solve port job cert) holds = After (market_ruling (holds port)) (λ market. RulesJob market (holds job))
 Rules (check cert) holds = GoesOn (RulesCertificate (holds cert)) (λ v r. r ≡ Ok (Check v))
-Rules (verify port job cert) holds = After (market_ruling (holds port)) (λ market. RulesClaimed market (holds job) (holds cert))
+Rules (verify port job cert) holds =
+    After (market_ruling (holds port)) (λ market. RulesClaimed market (holds job) (holds cert))
 Rules (demo asked) holds = RulesDemo asked
 
 -- the names behind a ruling, which are looked at only where it refused nothing
@@ -99,5 +102,6 @@ looks (quick port asked) holds = port ∷ []
 looks (solve port job cert) holds = port ∷ behind (market_ruling (holds port)) (λ market. job ∷ [])
 looks (check cert) holds = cert ∷ []
 looks (verify port job cert) holds =
-    port ∷ behind (market_ruling (holds port)) (λ market. job ∷ behind (job_ruling market.assets (holds job)) (λ asked. cert ∷ []))
+    port ∷ behind (market_ruling (holds port))
+    (λ market. job ∷ behind (job_ruling market.assets (holds job)) (λ asked. cert ∷ []))
 looks (demo asked) holds = []

@@ -47,13 +47,15 @@ HaltCause rose (Err ReadFault) = rose
 HaltCause rose (Err OutOfMemory) = Unit {0}
 
 -- a file was read, and its bytes ruled
-pub record IsLooked {T : Type 0} (name : List ℕ) (ruling : List ℕ → Result T Refusal → Type 0) (f g : FilesNow) (result : Result T Halt) : Type 0 where
+pub record IsLooked {T : Type 0} (name : List ℕ) (ruling : List ℕ → Result T Refusal → Type 0) (f g : FilesNow)
+    (result : Result T Halt) : Type 0 where
   pub told : IfTold f name (λ bytes. TellsRuling (ruling bytes) result)
   pub cause : HaltCause (RoseAt name f g) result
   pub frame : OnlyReads name f g
 
 -- files were read under these names, of which those that `looked` says were looked at, and ruled
-pub record IsRuled {T : Type 0} (names : List (List ℕ)) (looked : (List ℕ → List ℕ) → List (List ℕ)) (ruling : (List ℕ → List ℕ) → Result T Refusal → Type 0) (f g : FilesNow) (result : Result T Halt) : Type 0 where
+pub record IsRuled {T : Type 0} (names : List (List ℕ)) (looked : (List ℕ → List ℕ) → List (List ℕ))
+    (ruling : (List ℕ → List ℕ) → Result T Refusal → Type 0) (f g : FilesNow) (result : Result T Halt) : Type 0 where
   pub tells : (holds : List ℕ → List ℕ) → AreHeld names holds f → TellsRuling (ruling holds) result
   pub cause : HaltCause (RoseIn names f g) result
   pub looks_cause : (holds : List ℕ → List ℕ) → AreHeld names holds f → HaltCause (RoseIn (looked holds) f g) result
@@ -121,7 +123,8 @@ MayRefuse (verify port job cert) (Certificate fault) = Unit {0}
 MayRefuse (verify port job cert) (Differs difference) = Unit {0}
 MayRefuse _ _ = ⊥
 
--- what is to be done can be: its instance is one, as a certificate's head says it, there are 1 to 101 weights in their ranges,
+-- what is to be done can be: its instance is one, as a certificate's head says it, there are 1 to 101 weights in
+-- their ranges,
 -- and so are the nodes and the workers
 pub record IsReady (work : Work) : Type 0 where
   pub instance_is : IsInstance work.inst

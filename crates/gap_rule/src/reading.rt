@@ -27,7 +27,8 @@ fn read_piece<F: Files, C: Consumer>(
     ensures refused { IfTold (F.files files.old) name.now (λ held. (fault : _) → result ≡ Err (ReadStop.Refused fault)
         → IsFed held at (C.has_read consumer.old) → C.said held (Err fault)) }
     ensures end { IfTold (F.files files.old) name.now (λ held. result ≡ Ok 0 → length held ≤ at) }
-    ensures grown { IfOk result (λ count. WasFed at (C.has_read consumer.old) → WasFed (at + count) (C.has_read consumer.new)) }
+    ensures grown { IfOk result
+        (λ count. WasFed at (C.has_read consumer.old) → WasFed (at + count) (C.has_read consumer.new)) }
     ensures within { IfOk result (λ count. WasFed at (C.has_read consumer.old) → at + count ≤ C.MOST) }
     ensures cause { IfErr result (StopCause (RoseAt name.now (F.files files.old) (F.files files.new))) }
     ensures frame { OnlyReads name.now (F.files files.old) (F.files files.new) }

@@ -125,7 +125,8 @@ fn rule_job<F: Files>(
     name: &str,
     files: &mut F,
 ) -> Result<Task, Halt>
-    ensures ruled { IsRuled (name.now ∷ []) (λ holds. name.now ∷ []) (λ holds. RulesJob market (holds name.now)) (F.files files.old) (F.files files.new) result }
+    ensures ruled { IsRuled (name.now ∷ []) (λ holds. name.now ∷ []) (λ holds. RulesJob market (holds name.now))
+        (F.files files.old) (F.files files.new) result }
     ensures halts { MayHalt IsOfJob result }
     ensures ready { IfOk result IsSolve }
 {
@@ -135,7 +136,8 @@ fn rule_job<F: Files>(
 
 /// The ruling of `solve`.
 fn rule_solve<F: Files>(alloc: Global, port: &str, job: &str, files: &mut F) -> Result<Task, Halt>
-    ensures ruled { (cert : List ℕ) → IsRuledForm (solve port.now job.now cert) (F.files files.old) (F.files files.new) result }
+    ensures ruled { (cert : List ℕ)
+        → IsRuledForm (solve port.now job.now cert) (F.files files.old) (F.files files.new) result }
     ensures fits { (cert : List ℕ) → FitsForm (solve port.now job.now cert) result }
 {
     let market = read_market(alloc, files, port)?;

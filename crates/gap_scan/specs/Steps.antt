@@ -19,5 +19,6 @@ entry_at n width greatest most last total s =
     natural_at 2 Range 1 n s >>= λ a.
     (if nat_lt last a.0
     then (natural_at width Range 1 greatest a.1 >>= λ v.
-    (if nat_le (total + v.0) most then Ok (record { asset = a.0; number = v.0 }, v.1) else Err (fault_back (2 + width) Range v.1)))
+    (if nat_le (total + v.0) most then Ok (record { asset = a.0; number = v.0 }, v.1) else Err
+    (fault_back (2 + width) Range v.1)))
     else Err (fault_back 2 Order a.1))

@@ -96,7 +96,9 @@ impl<'a> Cursor<'a> {
     /// The next `width` bytes, where they are all there; the reading goes on behind them.
     fn front(&mut self, width: usize) -> Option<&'a [u8]>
         requires { width ≤ 16 }
-        ensures some { IfSome result (λ bytes. (width ≤ length self.old.rest) × (bytes.now ≡ take width self.old.rest) × (self.new ≡ behind width self.old)) }
+        ensures some { IfSome result
+            (λ bytes. (width ≤ length self.old.rest) × (bytes.now ≡ take width self.old.rest)
+            × (self.new ≡ behind width self.old)) }
         ensures none { IfNone result ((length self.old.rest < width) × (self.new ≡ self.old)) }
     {
         let rest = self.rest;

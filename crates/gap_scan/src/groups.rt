@@ -248,7 +248,8 @@ fn next_entry(
 ) -> Result<Entry, Stop>
     requires { width ≤ 8 }
     ensures read { Takes (entry_at n width greatest most last total cursor.old) cursor.new result }
-    ensures range { IfOk result (λ e. (1 ≤ e.asset) × (e.asset ≤ n) × (1 ≤ e.number) × (e.number ≤ greatest) × (total + e.number ≤ most)) }
+    ensures range { IfOk result
+        (λ e. (1 ≤ e.asset) × (e.asset ≤ n) × (1 ≤ e.number) × (e.number ≤ greatest) × (total + e.number ≤ most)) }
 {
     let asset = cursor.natural(2, CertKind::Range, 1, u64::from(n))? as u16;
     if last >= asset {
@@ -294,7 +295,9 @@ fn lots_entries(
 #[tactic(auto, unfolding(gap_cert::specs::Contexts::portfolio_format))]
 fn portfolio(cursor: &mut Cursor<'_>, context: &Context) -> Result<Group, Stop>
     requires { IsContext context.now }
-    ensures read { Takes (read (portfolio_format context.now.version context.now.n context.now.held context.now.held_most) cursor.old) cursor.new result }
+    ensures read { Takes (read
+        (portfolio_format context.now.version context.now.n context.now.held context.now.held_most) cursor.old)
+        cursor.new result }
     ensures inside { IfOk result (λ g. IsFieldIn g.field) }
 {
     match context.version {
@@ -340,7 +343,8 @@ fn multipliers(
     count: u16,
     y: Eighths,
 ) -> Result<Group, Stop>
-    ensures read { Takes (read (witness_tail context.now.turnover (witness_end context.now leaf) count y) cursor.old) cursor.new result }
+    ensures read { Takes (read (witness_tail context.now.turnover (witness_end context.now leaf) count y) cursor.old)
+        cursor.new result }
     ensures inside { IfOk result (λ g. IsFieldIn g.field) }
 {
     let alpha = cursor.signed(16, -MULTIPLIER_MOST, MULTIPLIER_MOST)?;
@@ -356,7 +360,9 @@ fn eighths_entries(
     count: u16,
 ) -> Result<Group, Stop>
     requires { IsContext context.now }
-    ensures read { Takes (read (eighths_format context.now.n context.now.lots context.now.turnover (witness_end context.now leaf) count) cursor.old) cursor.new result }
+    ensures read { Takes (read
+        (eighths_format context.now.n context.now.lots context.now.turnover (witness_end context.now leaf) count)
+        cursor.old) cursor.new result }
     ensures inside { IfOk result (λ g. IsFieldIn g.field) }
 {
     let most = 8 * u32::from(context.lots);
@@ -479,7 +485,8 @@ fn end(
     high: u64,
 ) -> Result<Group, Stop>
     requires { width ≤ 8 }
-    ensures read { Takes (read (natural width wrong low high (λ _. says (record { version = version; field = End }))) cursor.old) cursor.new result }
+    ensures read { Takes (read (natural width wrong low high (λ _. says (record { version = version; field = End })))
+        cursor.old) cursor.new result }
     ensures inside { IfOk result (λ g. IsFieldIn g.field) }
 {
     cursor.natural(width, wrong, low, high)?;

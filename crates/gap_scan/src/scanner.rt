@@ -41,7 +41,9 @@ impl Model for Scanner {
       fault = a.fault;
     } };
 
-    ghost invariant = { λ a. (a.at ≤ length a.buffer.items) × (a.place + (length a.buffer.items - a.at) ≤ 2 ^ 62) × IsContext a.context × (a.context.left ≤ a.place + 65536) × AreBytes a.buffer.items × ForSome a.fault (λ f. IsTrue (is_grammar_kind f.kind)) };
+    ghost invariant = { λ a. (a.at ≤ length a.buffer.items) × (a.place + (length a.buffer.items - a.at) ≤ 2 ^ 62)
+        × IsContext a.context × (a.context.left ≤ a.place + 65536) × AreBytes a.buffer.items
+        × ForSome a.fault (λ f. IsTrue (is_grammar_kind f.kind)) };
 }
 
 impl Scanner {

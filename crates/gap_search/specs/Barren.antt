@@ -1,5 +1,6 @@
 -- A bound for tests: three assets with 0 to 3 lots, of which one or two are held, and no list meets the limits. A tangent
--- shows 0, and every other leaf shows that there is no list. It keeps the laws of bounds. The tests alone use it. Own to portgap.
+-- shows 0, and every other leaf shows that there is no list. It keeps the laws of bounds. The tests alone use it. Own
+-- to portgap.
 
 use Rattle.std.proofs.Common.{◌≡◌, true, false, cond, replicate, inl, pos, refl, arith}
 use Rattle.std.proofs.lemmas.Int.{ints}

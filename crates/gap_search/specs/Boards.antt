@@ -109,7 +109,8 @@ pub record IsSound (p : Problem) (b : Board) : Type 0 where
   pub root : part_at b.nodes 0 ≡ p.whole
   pub leaves : (n : ℕ) (leaf : Leaf) → leaf_at b.nodes n ≡ Some leaf → FitsPart p (part_at b.nodes n) leaf
   pub best : IsBest p b.best
-  pub single : (n : ℕ) (leaf : Leaf) (x : List ℕ) → leaf_at b.nodes n ≡ Some leaf → IsSingle (part_at b.nodes n) p.fewest p.most x → p.meets x ≡ true → BestAtMost b.best (p.cost x)
+  pub single : (n : ℕ) (leaf : Leaf) (x : List ℕ) → leaf_at b.nodes n ≡ Some leaf
+      → IsSingle (part_at b.nodes n) p.fewest p.most x → p.meets x ≡ true → BestAtMost b.best (p.cost x)
   pub open_leaves : (w : ℕ) (node : NodeId) → node_held b.held w ≡ Some node → OpenLeaf p b.nodes node.0
   pub apart : (v w : ℕ) (node : NodeId) → node_held b.held v ≡ Some node → node_held b.held w ≡ Some node → v ≡ w
   pub within : splits_of b.nodes + tickets b.held ≤ b.budget

@@ -16,7 +16,8 @@ use Rattle.gap_search.specs.Boards.{Board, node_held, BestAtMost, BestAbove, IsS
 use Rattle.gap_search.specs.Steps.{Waits}
 
 -- a queue has exactly the leaves that wait, by what they show
-pub record AreWaiting (p : Problem) (nodes : List Node) (held : List (Option NodeId)) (waits : List (Option ℤ)) : Type 0 where
+pub record AreWaiting (p : Problem) (nodes : List Node) (held : List (Option NodeId)) (waits : List (Option ℤ)) : Type
+    0 where
   pub each : (n : ℕ) (key : ℤ) → (key_at waits n ≡ Some key) ↔ Waits p nodes held n key
 
 -- a node is a leaf that shows a number
@@ -27,7 +28,8 @@ pub record LeafShows (p : Problem) (nodes : List Node) (n : ℕ) (key : ℤ) : T
 
 -- beside each held leaf stands what it shows
 pub record AreKeys (p : Problem) (nodes : List Node) (held : List (Option NodeId)) (keys : List ℤ) : Type 0 where
-  pub each : (w : ℕ) (node : NodeId) → node_held held w ≡ Some node → LeafShows p nodes node.0 (slice_index_or keys w (pos 0))
+  pub each : (w : ℕ) (node : NodeId) → node_held held w ≡ Some node
+      → LeafShows p nodes node.0 (slice_index_or keys w (pos 0))
 
 -- a sound board with its queue, and room for each split of the budget
 pub record IsKept (p : Problem) (b : Board) (waits : List (Option ℤ)) (keys : List ℤ) (workers room : ℕ) : Type 0 where

@@ -58,7 +58,8 @@ with_best b best = record { nodes = b.nodes; held = b.held; best = best; budget 
 -- a claim by a worker: refused, and nothing changes, or granted
 abbrev pub Claim : Problem → Board → ℕ → Option Claimed → Board → Type 0
 Claim p old w None new = Refusal p old w × (new ≡ old)
-Claim p old w (Some c) new = (c.worker ≡ w) × Grant p old w c.node × (c.part ≡ part_at old.nodes c.node.0) × (new ≡ hold old w c.node)
+Claim p old w (Some c) new =
+    (c.worker ≡ w) × Grant p old w c.node × (c.part ≡ part_at old.nodes c.node.0) × (new ≡ hold old w c.node)
 
 -- the ticket of a worker for a node
 abbrev pub ticket_for : List Node → ℕ → NodeId → Claimed
@@ -75,7 +76,8 @@ pub record Holds (b : Board) (c : Claimed) : Type 0 where
   pub held : node_held b.held c.worker ≡ Some c.node
   pub part : c.part ≡ part_at b.nodes c.node.0
 
--- a leaf fits a child of a ticket's part: it is in range and tight there, and shows no less than the ticket's leaf on its part
+-- a leaf fits a child of a ticket's part: it is in range and tight there, and shows no less than the ticket's leaf on
+-- its part
 pub record FitsChild (p : Problem) (b : Board) (c : Claimed) (child : List Cell) (leaf : Leaf) : Type 0 where
   pub in_range : p.in_range leaf ≡ true
   pub tight : IsTight p child leaf
@@ -101,7 +103,8 @@ pub data OfferSingle (p : Problem) (part : List Cell) (best new : Option Best) :
 
 -- a ticket is settled: its leaf is split in two and held no more, and the only lists of the two children are offered,
 -- the first child's before the second's
-pub record Settle (p : Problem) (old : Board) (c : Claimed) (split : Split) (first second : Leaf) (new : Board) : Type 0 where
+pub record Settle (p : Problem) (old : Board) (c : Claimed) (split : Split) (first second : Leaf) (new : Board) : Type
+    0 where
   pub middle : Option Best
   pub offer_first : OfferSingle p (child_cells c.part split First) old.best middle
   pub offer_second : OfferSingle p (child_cells c.part split Second) middle new.best
@@ -119,7 +122,9 @@ pub data Event : Type 0 where
 -- an event takes a board to another
 abbrev pub Step : Problem → Board → Event → Board → Type 0
 Step p old (claims w result) new = (w < length old.held) × Claim p old w result new
-Step p old (settles c split first second) new = Holds old c × IsTrue (lawful_split c.part split) × FitsChild p old c (child_cells c.part split First) first × FitsChild p old c (child_cells c.part split Second) second × Settle p old c split first second new
+Step p old (settles c split first second) new =
+    Holds old c × IsTrue (lawful_split c.part split) × FitsChild p old c (child_cells c.part split First) first
+    × FitsChild p old c (child_cells c.part split Second) second × Settle p old c split first second new
 Step p old (gives_back c) new = Holds old c × (new ≡ release old c.worker)
 Step p old (offers x) new = new ≡ with_best old (offered p old.best x)
 
@@ -133,7 +138,8 @@ Run p old (event ∷ events) new = (middle : Board) × Step p old event middle �
 abbrev pub End : Problem → Board → Outcome → Type 0
 End p b (Closed best) = (b.best ≡ Some best) × AllShow p b.nodes (AtLeast best.value)
 End p b NoPortfolio = (b.best ≡ None) × AllShow p b.nodes Empty
-End p b (Bounded best bound) = (best ≡ b.best) × AllShow p b.nodes (AtLeast bound) × IsShown p b.nodes bound × BestAbove b.best bound
+End p b (Bounded best bound) =
+    (best ≡ b.best) × AllShow p b.nodes (AtLeast bound) × IsShown p b.nodes bound × BestAbove b.best bound
 
 -- a search begins with one leaf, nothing held, and the best of a list found before, if there is one (`first`), and of
 -- the root's only list, where it has just one
@@ -151,7 +157,8 @@ OfferLeaf p part (Some leaf) best new = OfferSingle p part best new
 -- the only list of each leaf's part is offered, where it has just one, in the order of the leaves' numbers
 abbrev pub OfferLeaves : Problem → List Node → Option Best → Option Best → Type 0
 OfferLeaves p [] best new = new ≡ best
-OfferLeaves p (node ∷ nodes) best new = (middle : Option Best) × OfferLeaf p node.part (leaf_in (Some node)) best middle × OfferLeaves p nodes middle new
+OfferLeaves p (node ∷ nodes) best new =
+    (middle : Option Best) × OfferLeaf p node.part (leaf_in (Some node)) best middle × OfferLeaves p nodes middle new
 
 -- a search goes on from the nodes of a tree, with nothing held, and the best of a list found before, if there is one
 -- (`first`), and of the only list of each leaf that has just one

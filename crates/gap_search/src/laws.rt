@@ -19,9 +19,13 @@ use gap_model::NodeBound;
 /// Every list of steps by any workers keeps what holds between two steps; it never lowers the least that a leaf shows,
 /// nor makes the best worse.
 pub fn every_order<B: NodeBound>()
-    ensures sound { (bound : B) (old new : Board) (events : List Event) → IsSound (B.problem bound) old → Run (B.problem bound) old events new → IsSound (B.problem bound) new }
-    ensures never_lower { (bound : B) (old new : Board) (events : List Event) (least : Shown) → IsSound (B.problem bound) old → Run (B.problem bound) old events new → AllShow (B.problem bound) old.nodes least → AllShow (B.problem bound) new.nodes least }
-    ensures never_worse { (bound : B) (old new : Board) (events : List Event) (value : ℤ) → Run (B.problem bound) old events new → BestAtMost old.best value → BestAtMost new.best value }
+    ensures sound { (bound : B) (old new : Board) (events : List Event) → IsSound (B.problem bound) old
+        → Run (B.problem bound) old events new → IsSound (B.problem bound) new }
+    ensures never_lower { (bound : B) (old new : Board) (events : List Event) (least : Shown)
+        → IsSound (B.problem bound) old → Run (B.problem bound) old events new
+        → AllShow (B.problem bound) old.nodes least → AllShow (B.problem bound) new.nodes least }
+    ensures never_worse { (bound : B) (old new : Board) (events : List Event) (value : ℤ)
+        → Run (B.problem bound) old events new → BestAtMost old.best value → BestAtMost new.best value }
 {}
 
 /// What a sound board says in the words of the problem. Each list of the root is in the part of exactly one leaf, so no
@@ -29,20 +33,35 @@ pub fn every_order<B: NodeBound>()
 /// points, and where there is but one fewer, no leaf shows less than the best. A leaf that is held can be taken further
 /// apart, by a lawful split.
 pub fn sound_board<B: NodeBound>()
-    ensures once { (bound : B) (board : Board) (x : List ℕ) → IsSound (B.problem bound) board → IsTrue (in_part (B.problem bound).whole x) → InOneLeaf board.nodes x }
-    ensures floor { (bound : B) (board : Board) (least : Shown) (x : List ℕ) → IsSound (B.problem bound) board → AllShow (B.problem bound) board.nodes least → (B.problem bound).meets x ≡ true → ShownLe least (AtLeast ((B.problem bound).cost x)) }
-    ensures few { (bound : B) (board : Board) → IsSound (B.problem bound) board → splits_of board.nodes + 1 ≤ points (B.problem bound).whole }
-    ensures full { (bound : B) (board : Board) (value : ℤ) → IsSound (B.problem bound) board → splits_of board.nodes + 1 ≡ points (B.problem bound).whole → IsShown (B.problem bound) board.nodes value → BestAtMost board.best value }
-    ensures held { (bound : B) (board : Board) (w : ℕ) (node : NodeId) → IsSound (B.problem bound) board → node_held board.held w ≡ Some node → OpenLeaf (B.problem bound) board.nodes node.0 }
-    ensures open { (bound : B) (board : Board) (n : ℕ) (o : OpenLeaf (B.problem bound) board.nodes n) → IsSound (B.problem bound) board → IsOpen (B.problem bound) (part_at board.nodes n) o.leaf }
-    ensures split { (bound : B) (board : Board) (n : ℕ) → IsSound (B.problem bound) board → OpenLeaf (B.problem bound) board.nodes n → (split : Split) × IsTrue (lawful_split (part_at board.nodes n) split) }
+    ensures once { (bound : B) (board : Board) (x : List ℕ) → IsSound (B.problem bound) board
+        → IsTrue (in_part (B.problem bound).whole x) → InOneLeaf board.nodes x }
+    ensures floor { (bound : B) (board : Board) (least : Shown) (x : List ℕ) → IsSound (B.problem bound) board
+        → AllShow (B.problem bound) board.nodes least → (B.problem bound).meets x ≡ true
+        → ShownLe least (AtLeast ((B.problem bound).cost x)) }
+    ensures few { (bound : B) (board : Board) → IsSound (B.problem bound) board
+        → splits_of board.nodes + 1 ≤ points (B.problem bound).whole }
+    ensures full { (bound : B) (board : Board) (value : ℤ) → IsSound (B.problem bound) board
+        → splits_of board.nodes + 1 ≡ points (B.problem bound).whole → IsShown (B.problem bound) board.nodes value
+        → BestAtMost board.best value }
+    ensures held { (bound : B) (board : Board) (w : ℕ) (node : NodeId) → IsSound (B.problem bound) board
+        → node_held board.held w ≡ Some node → OpenLeaf (B.problem bound) board.nodes node.0 }
+    ensures open { (bound : B) (board : Board) (n : ℕ) (o : OpenLeaf (B.problem bound) board.nodes n)
+        → IsSound (B.problem bound) board → IsOpen (B.problem bound) (part_at board.nodes n) o.leaf }
+    ensures split { (bound : B) (board : Board) (n : ℕ) → IsSound (B.problem bound) board
+        → OpenLeaf (B.problem bound) board.nodes n
+        → (split : Split) × IsTrue (lawful_split (part_at board.nodes n) split) }
 {}
 
 /// A claim is granted or refused, never both. Where a search ends closed, or with as many splits as the root can have,
 /// every claim is refused; with so many splits it doesn't end bounded.
 pub fn refusals<B: NodeBound>()
-    ensures apart { (bound : B) (board : Board) (w : ℕ) (node : NodeId) → Refusal (B.problem bound) board w → Grant (B.problem bound) board w node → ⊥ }
-    ensures closed { (bound : B) (board : Board) (w : ℕ) (best : Best) → End (B.problem bound) board (Closed best) → Refusal (B.problem bound) board w }
-    ensures full { (bound : B) (board : Board) (w : ℕ) → IsSound (B.problem bound) board → splits_of board.nodes + 1 ≡ points (B.problem bound).whole → Refusal (B.problem bound) board w }
-    ensures full_end { (bound : B) (board : Board) (best : Option Best) (value : ℤ) → IsSound (B.problem bound) board → splits_of board.nodes + 1 ≡ points (B.problem bound).whole → End (B.problem bound) board (Bounded best value) → ⊥ }
+    ensures apart { (bound : B) (board : Board) (w : ℕ) (node : NodeId) → Refusal (B.problem bound) board w
+        → Grant (B.problem bound) board w node → ⊥ }
+    ensures closed { (bound : B) (board : Board) (w : ℕ) (best : Best) → End (B.problem bound) board (Closed best)
+        → Refusal (B.problem bound) board w }
+    ensures full { (bound : B) (board : Board) (w : ℕ) → IsSound (B.problem bound) board
+        → splits_of board.nodes + 1 ≡ points (B.problem bound).whole → Refusal (B.problem bound) board w }
+    ensures full_end { (bound : B) (board : Board) (best : Option Best) (value : ℤ) → IsSound (B.problem bound) board
+        → splits_of board.nodes + 1 ≡ points (B.problem bound).whole
+        → End (B.problem bound) board (Bounded best value) → ⊥ }
 {}

@@ -162,11 +162,14 @@ pub fn take_up<B: NodeBound>(
     best: &mut Option<Best>,
 )
     requires root { part_at tree.now.nodes 0 ≡ (B.problem bound.now).whole }
-    requires in_range { (leaf : Leaf) → leaf_at tree.now.nodes node.0 ≡ Some leaf → (B.problem bound.now).in_range leaf ≡ true }
+    requires in_range { (leaf : Leaf) → leaf_at tree.now.nodes node.0 ≡ Some leaf
+        → (B.problem bound.now).in_range leaf ≡ true }
     requires there { node.0 < length queue.old }
     requires fresh { key_at queue.old node.0 ≡ None }
-    ensures queue { queue.new ≡ leaf_enqueued (B.problem bound.now) queue.old node.0 (part_at tree.now.nodes node.0) (leaf_at tree.now.nodes node.0) }
-    ensures best { OfferLeaf (B.problem bound.now) (part_at tree.now.nodes node.0) (leaf_at tree.now.nodes node.0) best.old best.new }
+    ensures queue { queue.new ≡ leaf_enqueued (B.problem bound.now) queue.old node.0 (part_at tree.now.nodes node.0)
+        (leaf_at tree.now.nodes node.0) }
+    ensures best { OfferLeaf (B.problem bound.now) (part_at tree.now.nodes node.0) (leaf_at tree.now.nodes node.0)
+        best.old best.new }
 {
     // the nodes are a tree
     let _count = tree.nodes();
@@ -185,7 +188,8 @@ pub fn take_up_all<B: NodeBound>(
     best: &mut Option<Best>,
 )
     requires root { part_at tree.now.nodes 0 ≡ (B.problem bound.now).whole }
-    requires in_range { (n : ℕ) (leaf : Leaf) → leaf_at tree.now.nodes n ≡ Some leaf → (B.problem bound.now).in_range leaf ≡ true }
+    requires in_range { (n : ℕ) (leaf : Leaf) → leaf_at tree.now.nodes n ≡ Some leaf
+        → (B.problem bound.now).in_range leaf ≡ true }
     requires room { length tree.now.nodes ≤ length queue.old }
     requires none { (n : ℕ) → key_at queue.old n ≡ None }
     ensures room { length queue.new ≡ length queue.old }

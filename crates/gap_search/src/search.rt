@@ -88,7 +88,9 @@ impl<'a, B: NodeBound> Model for Search<'a, B> {
       workers = s.workers;
     } };
 
-    ghost invariant = { λ s. IsKept (B.problem s.bound) (record { nodes = s.tree.nodes; held = s.held; best = s.best; budget = s.budget }) s.queue s.keys s.workers s.tree.room };
+    ghost invariant = { λ s. IsKept (B.problem s.bound)
+        (record { nodes = s.tree.nodes; held = s.held; best = s.best; budget = s.budget }) s.queue s.keys s.workers
+        s.tree.room };
 }
 
 impl<'a, B: NodeBound> Search<'a, B> {
@@ -110,7 +112,10 @@ impl<'a, B: NodeBound> Search<'a, B> {
         requires most_workers { workers ≤ 16 }
         ensures bound { IfOk result (λ s. s.bound ≡ bound) }
         ensures workers { IfOk result (λ s. s.workers ≡ workers) }
-        ensures begins { IfOk result (λ s. (first : Option Best) × MatchOption best.entry (first ≡ None) (λ x. first ≡ offered (B.problem bound) None x.now) × Begins (B.problem bound) leaf.entry first budget s.board) }
+        ensures begins { IfOk result
+            (λ s. (first : Option Best)
+            × MatchOption best.entry (first ≡ None) (λ x. first ≡ offered (B.problem bound) None x.now)
+            × Begins (B.problem bound) leaf.entry first budget s.board) }
         ensures sound { IfOk result (λ s. IsSound (B.problem bound) s.board) }
     {
         let tree = Tree::with_room(alloc, 2 * budget + 1, bound.root(), leaf)?;
@@ -129,7 +134,8 @@ impl<'a, B: NodeBound> Search<'a, B> {
         best: Option<&Lots>,
     ) -> Result<Search<'a, B>, OutOfMemory>
         requires root { part_at tree.nodes 0 ≡ (B.problem bound).whole }
-        requires leaves { (n : ℕ) (leaf : Leaf) → leaf_at tree.nodes n ≡ Some leaf → FitsPart (B.problem bound) (part_at tree.nodes n) leaf }
+        requires leaves { (n : ℕ) (leaf : Leaf) → leaf_at tree.nodes n ≡ Some leaf
+            → FitsPart (B.problem bound) (part_at tree.nodes n) leaf }
         requires splits { splits_of tree.nodes ≤ budget }
         requires room { 2 * budget + 1 ≤ tree.room }
         requires budget { budget ≤ 100000 }
@@ -137,7 +143,10 @@ impl<'a, B: NodeBound> Search<'a, B> {
         requires most_workers { workers ≤ 16 }
         ensures bound { IfOk result (λ s. s.bound ≡ bound) }
         ensures workers { IfOk result (λ s. s.workers ≡ workers) }
-        ensures resumes { IfOk result (λ s. (first : Option Best) × MatchOption best.entry (first ≡ None) (λ x. first ≡ offered (B.problem bound) None x.now) × Resumes (B.problem bound) tree.entry.nodes first budget s.board) }
+        ensures resumes { IfOk result
+            (λ s. (first : Option Best)
+            × MatchOption best.entry (first ≡ None) (λ x. first ≡ offered (B.problem bound) None x.now)
+            × Resumes (B.problem bound) tree.entry.nodes first budget s.board) }
         ensures sound { IfOk result (λ s. IsSound (B.problem bound) s.board) }
     {
         // the nodes are a tree, and each cell of its root is in range
@@ -178,7 +187,8 @@ impl<'a, B: NodeBound> Search<'a, B> {
         requires { worker < self.old.workers }
         ensures bound { self.new.bound ≡ self.old.bound }
         ensures workers { self.new.workers ≡ self.old.workers }
-        ensures step { Claim (B.problem self.old.bound) self.old.board worker (ticket_of self.old.board.nodes worker result) self.new.board }
+        ensures step { Claim (B.problem self.old.bound) self.old.board worker
+            (ticket_of self.old.board.nodes worker result) self.new.board }
         ensures there { IfSome result (λ node. node.0 < length self.new.board.nodes) }
         ensures sound { IsSound (B.problem self.old.bound) self.new.board }
     {
@@ -215,11 +225,14 @@ impl<'a, B: NodeBound> Search<'a, B> {
     pub fn settle(&mut self, ticket: Ticket, split: Split, first: Leaf<'a>, second: Leaf<'a>)
         requires holds { Holds self.old.board ticket }
         requires lawful { IsTrue (lawful_split ticket.part split) }
-        requires fits_first { FitsChild (B.problem self.old.bound) self.old.board ticket (child_cells ticket.part split First) first }
-        requires fits_second { FitsChild (B.problem self.old.bound) self.old.board ticket (child_cells ticket.part split Second) second }
+        requires fits_first { FitsChild (B.problem self.old.bound) self.old.board ticket
+            (child_cells ticket.part split First) first }
+        requires fits_second { FitsChild (B.problem self.old.bound) self.old.board ticket
+            (child_cells ticket.part split Second) second }
         ensures bound { self.new.bound ≡ self.old.bound }
         ensures workers { self.new.workers ≡ self.old.workers }
-        ensures step { Settle (B.problem self.old.bound) self.old.board ticket split first.entry second.entry self.new.board }
+        ensures step { Settle (B.problem self.old.bound) self.old.board ticket split first.entry second.entry
+            self.new.board }
         ensures sound { IsSound (B.problem self.old.bound) self.new.board }
     {
         let Ticket { part, node, worker } = ticket;
@@ -253,7 +266,8 @@ impl<'a, B: NodeBound> Search<'a, B> {
     /// False changes nothing.
     pub fn offer(&mut self, x: &Lots) -> bool
         ensures taken { result ≡ improves (B.problem self.old.bound) self.old.board.best x.now }
-        ensures value { self.new ≡ record self.old { board = with_best self.old.board (offered (B.problem self.old.bound) self.old.board.best x.now) } }
+        ensures value { self.new ≡ record self.old
+            { board = with_best self.old.board (offered (B.problem self.old.bound) self.old.board.best x.now) } }
         ensures sound { IsSound (B.problem self.old.bound) self.new.board }
     {
         offer_to(&self.bound, &mut self.best, x)

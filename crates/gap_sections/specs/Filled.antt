@@ -20,7 +20,8 @@ section_bytes s = spelled Two None (section_fields s)
 -- the section of a certificate over n assets that says what is known of a weight was appended to the named file, from the
 -- files f to g: all of its bytes, or it stopped with a proper front of them
 abbrev pub FillsSection : List ℕ → FilesNow → FilesNow → SinkNow → ℕ → SolvedValue → Result (Unit {0}) Halt → Type 0
-FillsSection name f g sink n solved result = (s : CertSection) → IsSectionOf n solved s → Fills name f g sink (section_bytes s) result
+FillsSection name f g sink n solved result =
+    (s : CertSection) → IsSectionOf n solved s → Fills name f g sink (section_bytes s) result
 
 -- what a writer has and what items behind it will add
 abbrev pub due : Written → List Field → List ℕ
@@ -29,7 +30,9 @@ due w fields = w.bytes ++ spelled Two w.last fields
 -- the items of the trees whose roots wait on a stack, the last one's first
 abbrev pub Waits : ℕ → List Node → List NodeId → List Field → Type 0
 Waits n nodes [] fields = fields ≡ []
-Waits n nodes (node ∷ stack) fields = (behind : List Field) × (tree : SplitTree) × Waits n nodes stack behind × IsTreeOf nodes node.0 tree × (fields ≡ behind ++ tree_fields (cert_tree_of n tree))
+Waits n nodes (node ∷ stack) fields =
+    (behind : List Field) × (tree : SplitTree) × Waits n nodes stack behind × IsTreeOf nodes node.0 tree
+    × (fields ≡ behind ++ tree_fields (cert_tree_of n tree))
 
 -- the trees that wait on a stack have items, and what a writer has with these is what is due
 pub record Owes (n : ℕ) (nodes : List Node) (stack : List NodeId) (w : Written) (all : List ℕ) : Type 0 where
@@ -38,7 +41,8 @@ pub record Owes (n : ℕ) (nodes : List Node) (stack : List NodeId) (w : Written
   pub all_is : due w fields ≡ all
 
 -- of all that is due a front was appended to the named file, and the rest is in the writer or waits on a stack
-pub record Pours (n : ℕ) (nodes : List Node) (name : List ℕ) (f g : FilesNow) (sink : SinkNow) (all : List ℕ) (stack : List NodeId) (w : Written) : Type 0 where
+pub record Pours (n : ℕ) (nodes : List Node) (name : List ℕ) (f g : FilesNow) (sink : SinkNow) (all : List ℕ)
+    (stack : List NodeId) (w : Written) : Type 0 where
   pub left : List ℕ
   pub owes : Owes n nodes stack w left
   pub flows : Flows name f g sink all left

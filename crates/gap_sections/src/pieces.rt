@@ -25,7 +25,8 @@ fn append_piece<F: Files>(
 ) -> Result<(), Halt>
     requires some { 0 < piece }
     requires more { piece < length writer.old.bytes }
-    ensures drains { (sink : SinkNow) → Drains name.now (F.files files.old) (F.files files.new) sink writer.old.bytes writer.new.bytes result }
+    ensures drains { (sink : SinkNow)
+        → Drains name.now (F.files files.old) (F.files files.new) sink writer.old.bytes writer.new.bytes result }
     ensures last { OnOk result (writer.new.last ≡ writer.old.last) }
     ensures some { OnOk result (0 < length writer.new.bytes) }
     ensures less { OnOk result (length writer.new.bytes < length writer.old.bytes) }
@@ -44,7 +45,8 @@ pub fn drain<F: Files>(
 ) -> Result<(), Halt>
     requires piece { 0 < piece }
     requires some { 0 < length writer.old.bytes }
-    ensures drains { (sink : SinkNow) → Drains name.now (F.files files.old) (F.files files.new) sink writer.old.bytes writer.new.bytes result }
+    ensures drains { (sink : SinkNow)
+        → Drains name.now (F.files files.old) (F.files files.new) sink writer.old.bytes writer.new.bytes result }
     ensures last { OnOk result (writer.new.last ≡ writer.old.last) }
     ensures some { OnOk result (0 < length writer.new.bytes) }
 {

@@ -53,7 +53,8 @@ pub fn write_section<F: Files>(
     inst: &Instance,
     solved: &Solved<'_>,
 ) -> Result<(), Halt>
-    ensures { (sink : SinkNow) → FillsSection name.now (F.files files.old) (F.files files.new) sink inst.now.market.assets solved.now result }
+    ensures { (sink : SinkNow)
+        → FillsSection name.now (F.files files.old) (F.files files.new) sink inst.now.market.assets solved.now result }
 {
     let mut writer = Writer::new(alloc);
     writer.section(&head_of(solved))?;

@@ -42,8 +42,11 @@ fn write_item(
     node: NodeId,
     writer: &mut Writer,
 ) -> Result<(), OutOfMemory>
-    ensures split { OnOk result ((split : Split) → split_at tree.now.nodes node.0 ≡ Some split → writer.new ≡ put writer.old (field.Split split)) }
-    ensures leaf { OnOk result ((leaf : Leaf) → leaf_at tree.now.nodes node.0 ≡ Some leaf → writer.new ≡ put writer.old (leaf_field (cert_leaf_of inst.now.market.assets leaf))) }
+    ensures split { OnOk result
+        ((split : Split) → split_at tree.now.nodes node.0 ≡ Some split → writer.new ≡ put writer.old (field.Split split)) }
+    ensures leaf { OnOk result
+        ((leaf : Leaf) → leaf_at tree.now.nodes node.0 ≡ Some leaf
+        → writer.new ≡ put writer.old (leaf_field (cert_leaf_of inst.now.market.assets leaf))) }
     ensures grows { OnOk result (length writer.old.bytes ≤ length writer.new.bytes) }
 {
     if let Some(split) = split_of(tree, node) {
@@ -74,10 +77,13 @@ fn write_node(
     writer: &mut Writer,
 ) -> Result<(), OutOfMemory>
     requires { 0 < length writer.old.bytes }
-    ensures owes { OnOk result ((all : List ℕ) → Owes inst.now.market.assets tree.now.nodes (stack.old.items ++ node ∷ []) writer.old all
+    ensures owes { OnOk result
+        ((all : List ℕ) → Owes inst.now.market.assets tree.now.nodes (stack.old.items ++ node ∷ []) writer.old all
         → Owes inst.now.market.assets tree.now.nodes stack.new.items writer.new all) }
     ensures some { OnOk result (0 < length writer.new.bytes) }
-    ensures lighter { OnOk result (weight_of (length tree.now.nodes) stack.new.items < weight_of (length tree.now.nodes) (stack.old.items ++ node ∷ [])) }
+    ensures lighter { OnOk result
+        (weight_of (length tree.now.nodes) stack.new.items
+        < weight_of (length tree.now.nodes) (stack.old.items ++ node ∷ [])) }
 {
     // each node comes before its children
     let _nodes = tree.nodes();

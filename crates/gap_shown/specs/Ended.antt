@@ -58,7 +58,9 @@ pub record ShowsJust (s : Setting) (tree : List Node) (overall : Option Witness)
 abbrev pub IsTold : Setting → ℕ → List Node → Option Witness → Outcome → Type 0
 IsTold s nodes tree overall (Closed best) = IsPortfolio s.instance s.p s.q best × ShowsNumber s tree overall best.value
 IsTold s nodes tree overall NoPortfolio = AllShow (tangent_problem s) tree Empty
-IsTold s nodes tree overall (Bounded best bound) = IsFoundAbove s.instance s.p s.q bound best × ShowsJust s tree overall bound × (unsigned_abs bound ≤ most_bound) × (splits_of tree ≡ nodes)
+IsTold s nodes tree overall (Bounded best bound) =
+    IsFoundAbove s.instance s.p s.q bound best × ShowsJust s tree overall bound × (unsigned_abs bound ≤ most_bound)
+    × (splits_of tree ≡ nodes)
 
 -- the search of a weight has ended
 pub record HasEnded (s : Setting) (nodes : ℕ) (solved : SolvedValue) : Type 0 where
@@ -73,4 +75,5 @@ pub record HasEnded (s : Setting) (nodes : ℕ) (solved : SolvedValue) : Type 0 
 
 -- a section is valid under each head of this instance, these numbers D and this budget
 abbrev pub IsValidWhere : InstanceValue → List ℤ → ℕ → CertSection → Type 0
-IsValidWhere I diagonal nodes section = (h : CertHead) → instance_in h ≡ I → (shift_in h).diagonal ≡ diagonal → h.nodes ≡ nodes → IsValidSection h section
+IsValidWhere I diagonal nodes section =
+    (h : CertHead) → instance_in h ≡ I → (shift_in h).diagonal ≡ diagonal → h.nodes ≡ nodes → IsValidSection h section

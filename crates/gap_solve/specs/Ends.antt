@@ -39,4 +39,5 @@ eighths_in n (Some best) = eighths_of best.lots
 -- price of the turnover, and where the root has a tangent point no less than the tangent at that point from y shows
 pub record HasFloor (s : Setting) (y : List ℕ) (bound : ℤ) : Type 0 where
   pub own : NoLessThanAt s (root_of s) (lots_at y) (AtLeast bound)
-  pub point : HasTangentPoint s (root_of s) → NoLessThanAt s (root_of s) (lots_at (point s (choice_of s (root_of s)) y)) (AtLeast bound)
+  pub point : HasTangentPoint s (root_of s)
+      → NoLessThanAt s (root_of s) (lots_at (point s (choice_of s (root_of s)) y)) (AtLeast bound)

@@ -54,14 +54,16 @@ eighths_from n (Some x) = eighths_of x
 -- of the turnover
 pub record IsAlphaAt (s : Setting) (y : List ℕ) (alpha : ℤ) : Type 0 where
   pub most : unsigned_abs alpha ≤ most_multiplier
-  pub best : can_meet (root_of s) s.instance.held s.instance.held_most ≡ true → IsBest (alpha_curve s (root_of s) (lots_at y) (pos 0)) (neg_ℤ (pos most_multiplier)) (pos most_multiplier) alpha
+  pub best : can_meet (root_of s) s.instance.held s.instance.held_most ≡ true
+      → IsBest (alpha_curve s (root_of s) (lots_at y) (pos 0)) (neg_ℤ (pos most_multiplier)) (pos most_multiplier) alpha
 
 -- a witness at a point with no price of the turnover: where the count can be met on the root, it shows no less than the
 -- point under any alpha
 pub record IsBestAt (s : Setting) (y : List ℕ) (w : Witness) : Type 0 where
   pub y_is : w.y ≡ y
   pub witness : IsWitness s w
-  pub best : can_meet (root_of s) s.instance.held s.instance.held_most ≡ true → NoLessThanAt s (root_of s) (lots_at y) (witness_shows s (root_of s) w)
+  pub best : can_meet (root_of s) s.instance.held s.instance.held_most ≡ true
+      → NoLessThanAt s (root_of s) (lots_at y) (witness_shows s (root_of s) w)
 
 -- a leaf of the root, found from a point under its best alpha
 pub record IsRootLeaf (s : Setting) (y : List ℕ) (leaf : Leaf) : Type 0 where
@@ -104,14 +106,18 @@ pub record IsPolished (s : Setting) (found better : Best) : Type 0 where
 -- more than the least; no such number is above 10^36 in size
 abbrev pub IsOverall : Setting → ℤ → Option Witness → ℤ → Type 0
 IsOverall s least None number = number ≡ least
-IsOverall s least (Some w) number = IsWitness s w × (witness_shows s (root_of s) w ≡ AtLeast number) × (least <ℤ number) × (unsigned_abs number ≤ most_bound)
+IsOverall s least (Some w) number =
+    IsWitness s w × (witness_shows s (root_of s) w ≡ AtLeast number) × (least <ℤ number)
+    × (unsigned_abs number ≤ most_bound)
 
 -- the end of a search that is bounded by the least of its leaves, with a portfolio: closed where it isn't above what is
 -- shown, else bounded by this, which has its floor
 abbrev pub IsOpenEnd : Setting → Best → ℤ → Outcome → Option Witness → Type 0
-IsOpenEnd s best least (Closed b) overall = (b ≡ best) × ((number : ℤ) × IsOverall s least overall number × (best.value ≤ℤ number))
+IsOpenEnd s best least (Closed b) overall =
+    (b ≡ best) × ((number : ℤ) × IsOverall s least overall number × (best.value ≤ℤ number))
 IsOpenEnd s best least NoPortfolio overall = ⊥
-IsOpenEnd s best least (Bounded o bound) overall = (o ≡ Some best) × IsOverall s least overall bound × (bound <ℤ best.value) × HasFloor s (eighths_of best.lots) bound
+IsOpenEnd s best least (Bounded o bound) overall =
+    (o ≡ Some best) × IsOverall s least overall bound × (bound <ℤ best.value) × HasFloor s (eighths_of best.lots) bound
 
 -- the search ended as its board says, and it isn't bounded with a portfolio
 pub record IsPlainEnd (s : Setting) (board : Board) (outcome : Outcome) (overall : Option Witness) : Type 0 where
@@ -131,7 +137,8 @@ pub record IsBetterEnd (s : Setting) (board : Board) (outcome : Outcome) (overal
 -- the end of a search that is bounded, by what it found: with a portfolio, this is polished
 abbrev pub IsBoundedEnd : Setting → Option Best → ℤ → Outcome → Option Witness → Type 0
 IsBoundedEnd s None least outcome overall = (outcome ≡ Bounded None least) × (overall ≡ None)
-IsBoundedEnd s (Some found) least outcome overall = (better : Best) × IsPolished s found better × IsOpenEnd s better least outcome overall
+IsBoundedEnd s (Some found) least outcome overall =
+    (better : Best) × IsPolished s found better × IsOpenEnd s better least outcome overall
 
 -- how a weight ends by the board of its search
 abbrev pub IsFinish : Setting → Board → Outcome → Option Witness → Type 0

@@ -56,24 +56,32 @@ pub record IsOwed (s : Setting) (nodes : ℕ) (warm : Option (List ℕ)) (tree :
   pub ordered : SomeOrderGives s.instance s.p s.q → IsSome (best_in outcome)
   pub warm_is : ForSome warm (λ x. BestAtMost (best_in outcome) (objective s.instance s.p s.q x))
   pub uncounted : can_meet (root_of s) s.instance.held s.instance.held_most ≡ false → outcome ≡ NoPortfolio
-  pub voids : (alpha tau : ℤ) → IsVoidTry s.instance.turnover alpha tau → shows s (root_of s) (Void alpha tau (pos 0)) ≡ Empty → outcome ≡ NoPortfolio
-  pub single : best_in outcome ≡ None → (n : ℕ) (leaf : Leaf) (x : List ℕ) → leaf_at tree n ≡ Some leaf → IsSingle (part_at tree n) s.instance.held s.instance.held_most x → MeetsLimits s.instance x → ⊥
+  pub voids : (alpha tau : ℤ) → IsVoidTry s.instance.turnover alpha tau
+      → shows s (root_of s) (Void alpha tau (pos 0)) ≡ Empty → outcome ≡ NoPortfolio
+  pub single : best_in outcome ≡ None → (n : ℕ) (leaf : Leaf) (x : List ℕ) → leaf_at tree n ≡ Some leaf
+      → IsSingle (part_at tree n) s.instance.held s.instance.held_most x → MeetsLimits s.instance x → ⊥
   pub neighbour : ForSome (best_in outcome) (λ best. HasNoBetterNeighbour s.instance s.p s.q best.lots)
   pub enough : points (root_of s) ≤ nodes + 1 → is_bounded outcome ≡ false
 
 -- a weight is solved with a budget of splits, over an instance and a shift, with the list of the weight before where there
 -- was one (`warm`):
--- right: the outcome is right: a portfolio is one and has its objective, and no list that meets the limits is below the bound;
+-- right: the outcome is right: a portfolio is one and has its objective, and no list that meets the limits is below
+-- the bound;
 -- valid: its section is valid under each head of the instance, the shift and the budget;
 -- shown: the bound of an open outcome is what its section shows;
 -- spent: an outcome is open only after exactly the budget of splits was made;
 -- floor: its bound, for a closed one the objective, has its floor from 8 times the portfolio, from 0 where there is none
-pub record IsSolved (I : InstanceValue) (shift : ShiftValue) (w : Weight) (nodes : ℕ) (warm : Option (List ℕ)) (solved : SolvedValue) : Type 0 where
+pub record IsSolved (I : InstanceValue) (shift : ShiftValue) (w : Weight) (nodes : ℕ) (warm : Option (List ℕ))
+    (solved : SolvedValue) : Type 0 where
   pub weight_is : solved.weight ≡ w
   pub right : IsRight I w.p w.q solved.outcome
-  pub valid : (section : CertSection) → IsSectionOf I.market.assets solved section → IsValidWhere I shift.diagonal nodes section
-  pub shown : (best : Option Best) (bound : ℤ) (section : CertSection) → solved.outcome ≡ Bounded best bound → IsSectionOf I.market.assets solved section → shown_bound (setting_with I shift w) (root_of (setting_with I shift w)) solved.overall section.tree ≡ AtLeast bound
+  pub valid : (section : CertSection) → IsSectionOf I.market.assets solved section
+      → IsValidWhere I shift.diagonal nodes section
+  pub shown : (best : Option Best) (bound : ℤ) (section : CertSection) → solved.outcome ≡ Bounded best bound
+      → IsSectionOf I.market.assets solved section
+      → shown_bound (setting_with I shift w) (root_of (setting_with I shift w)) solved.overall section.tree ≡ AtLeast bound
   pub spent : is_bounded solved.outcome ≡ true → splits_of solved.nodes ≡ nodes
   pub grown : IsGrown (setting_with I shift w) nodes solved.nodes
-  pub floor : ForSome (bound_in solved.outcome) (HasFloor (setting_with I shift w) (eighths_in I.market.assets (best_in solved.outcome)))
+  pub floor : ForSome (bound_in solved.outcome)
+      (HasFloor (setting_with I shift w) (eighths_in I.market.assets (best_in solved.outcome)))
   pub owed : IsOwed (setting_with I shift w) nodes warm solved.nodes solved.outcome

@@ -53,7 +53,8 @@ fn cheaper(inst: &Instance, w: Weight, found: Option<Lots>, other: Lots) -> Lots
     }
 }
 
-/// The list that a search starts from: the start's, or the list handed in, polished, where it costs less or there is no start.
+/// The list that a search starts from: the start's, or the list handed in, polished, where it costs less or there is
+/// no start.
 pub fn first_list(inst: &Instance, w: Weight, warm: Option<&Lots>) -> Option<Lots>
     requires { ForSome (option_copied warm) (MeetsLimits inst.now) }
     ensures { IsFirst inst.now w.p w.q (option_copied warm.entry) result }

@@ -47,7 +47,8 @@ fn overall_for(
     requires { IsPortfolio (setting_of bound.now).instance (setting_of bound.now).p (setting_of bound.now).q best.now }
     ensures witness { IfOk result (λ r. IsWitness (setting_of bound.now) r.0) }
     ensures small { IfOk result (λ r. unsigned_abs r.1 ≤ most_bound) }
-    ensures shows { IfOk result (λ r. witness_shows (setting_of bound.now) (root_of (setting_of bound.now)) r.0 ≡ AtLeast r.1) }
+    ensures shows { IfOk result
+        (λ r. witness_shows (setting_of bound.now) (root_of (setting_of bound.now)) r.0 ≡ AtLeast r.1) }
     ensures floor { IfOk result (λ r. HasFloor (setting_of bound.now) (eighths_of best.now.lots) r.1) }
 {
     let leaf = root_leaf(bound, Eighths::of(&best.lots), arena)?;
@@ -110,7 +111,8 @@ fn bounded_end(
     least: i128,
     arena: &Bump,
 ) -> Result<(Outcome, Option<Witness>), OutOfMemory>
-    requires { ForSome found (IsPortfolio (setting_of bound.now).instance (setting_of bound.now).p (setting_of bound.now).q) }
+    requires { ForSome found
+        (IsPortfolio (setting_of bound.now).instance (setting_of bound.now).p (setting_of bound.now).q) }
     ensures { IfOk result (λ r. IsBoundedEnd (setting_of bound.now) found least r.0 r.1) }
 {
     match found {

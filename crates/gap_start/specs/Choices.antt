@@ -31,7 +31,8 @@ pub record AreChosenSoFar (I : InstanceValue) (cells : List Cell) (y marks : Lis
   pub ones : (i : ℕ) → slice_index_or marks i 0 ≡ cond (is_marked marks i) 1 0
   pub musts : (i : ℕ) → i < I.market.assets → is_held (slice_index_or cells i Out) ≡ true → is_marked marks i ≡ true
   pub chosen : (i : ℕ) → i < I.market.assets → is_marked marks i ≡ true → is_chosen I cells y i ≡ true
-  pub ahead : (i j : ℕ) → i < I.market.assets → j < I.market.assets → is_marked marks i ≡ true → is_free (slice_index_or cells i Out) ≡ true → is_left cells marks j ≡ true → has_more y i j ≡ true
+  pub ahead : (i j : ℕ) → i < I.market.assets → j < I.market.assets → is_marked marks i ≡ true
+      → is_free (slice_index_or cells i Out) ≡ true → is_left cells marks j ≡ true → has_more y i j ≡ true
   pub count : helds cells + count_if (length cells) (λ i. is_free (slice_index_or cells i Out) && is_marked marks i) ≡ held
 
 -- the marks of the assets below n that must be held

@@ -21,12 +21,17 @@ stepped x Replace i j = exchanged x i j
 
 -- there is such a step, and asset j has room for what it gets
 abbrev pub HasRoom : InstanceValue → List ℕ → Kind → ℕ → ℕ → Type 0
-HasRoom I x Move i j = (i ≢ j) × (0 < slice_index_or x i 0) × (0 < slice_index_or x j 0) × (slice_index_or x j 0 < slice_index_or I.greatest j 0)
-HasRoom I x Replace i j = (0 < slice_index_or x i 0) × (slice_index_or x j 0 ≡ 0) × (slice_index_or I.least j 0 ≤ slice_index_or x i 0) × (slice_index_or x i 0 ≤ slice_index_or I.greatest j 0)
+HasRoom I x Move i j =
+    (i ≢ j) × (0 < slice_index_or x i 0) × (0 < slice_index_or x j 0)
+    × (slice_index_or x j 0 < slice_index_or I.greatest j 0)
+HasRoom I x Replace i j =
+    (0 < slice_index_or x i 0) × (slice_index_or x j 0 ≡ 0) × (slice_index_or I.least j 0 ≤ slice_index_or x i 0)
+    × (slice_index_or x i 0 ≤ slice_index_or I.greatest j 0)
 
 -- the step doesn't lead to a list that meets the limits and has an objective below v
 abbrev pub NoneBelow : InstanceValue → ℕ → ℕ → List ℕ → ℤ → Kind → ℕ → ℕ → Type 0
-NoneBelow I p q x v kind i j = CanStep x kind i j → MeetsLimits I (stepped x kind i j) → v ≤ℤ objective I p q (stepped x kind i j)
+NoneBelow I p q x v kind i j =
+    CanStep x kind i j → MeetsLimits I (stepped x kind i j) → v ≤ℤ objective I p q (stepped x kind i j)
 
 -- nor does one from asset i to an asset below n, nor any of its kind
 abbrev pub NoneBelowFrom : InstanceValue → ℕ → ℕ → List ℕ → ℤ → Kind → ℕ → ℕ → Type 0

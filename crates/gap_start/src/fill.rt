@@ -55,7 +55,8 @@ fn bring(h: &mut Holding<'_>, marks: &Lots, up: bool, missing: u32)
 fn best_change(h: &Holding<'_>, marks: &Lots, up: bool) -> Option<Change>
     requires { length marks.now ≡ h.now.instance.market.assets }
     ensures instance { IsInstance h.now.instance }
-    ensures change { IsSoFar h.now.instance h.now.weight.p h.now.weight.q marks.now h.now.lots up h.now.instance.market.assets result }
+    ensures change { IsSoFar h.now.instance h.now.weight.p h.now.weight.q marks.now h.now.lots up
+        h.now.instance.market.assets result }
 {
     let nearer = some_comes_nearer(h, marks, up);
     let mut best: Option<Change> = None;

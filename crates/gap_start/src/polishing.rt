@@ -16,7 +16,8 @@ pub fn polish(h: &mut Holding<'_>)
     ensures instance { h.new.instance ≡ h.old.instance }
     ensures weight { h.new.weight ≡ h.old.weight }
     ensures meets { MeetsLimits h.new.instance h.new.lots }
-    ensures better { objective h.old.instance h.old.weight.p h.old.weight.q h.new.lots ≤ℤ objective h.old.instance h.old.weight.p h.old.weight.q h.old.lots }
+    ensures better { objective h.old.instance h.old.weight.p h.old.weight.q h.new.lots
+        ≤ℤ objective h.old.instance h.old.weight.p h.old.weight.q h.old.lots }
     ensures best { HasNoBetterNeighbour h.new.instance h.new.weight.p h.new.weight.q h.new.lots }
 {
     let mut going = true;
@@ -31,8 +32,12 @@ fn improved(h: &mut Holding<'_>) -> bool
     ensures instance { h.new.instance ≡ h.old.instance }
     ensures weight { h.new.weight ≡ h.old.weight }
     ensures meets { MeetsLimits h.new.instance h.new.lots }
-    ensures better { IsTrue result → objective h.old.instance h.old.weight.p h.old.weight.q h.new.lots <ℤ objective h.old.instance h.old.weight.p h.old.weight.q h.old.lots }
-    ensures lower { IsTrue result → height h.old.instance h.old.weight.p h.old.weight.q h.new.lots < height h.old.instance h.old.weight.p h.old.weight.q h.old.lots }
+    ensures better { IsTrue result
+        → objective h.old.instance h.old.weight.p h.old.weight.q h.new.lots
+        <ℤ objective h.old.instance h.old.weight.p h.old.weight.q h.old.lots }
+    ensures lower { IsTrue result
+        → height h.old.instance h.old.weight.p h.old.weight.q h.new.lots
+        < height h.old.instance h.old.weight.p h.old.weight.q h.old.lots }
     ensures stays { IsFalse result → h.new ≡ h.old }
     ensures best { IsFalse result → HasNoBetterNeighbour h.old.instance h.old.weight.p h.old.weight.q h.old.lots }
 {

@@ -28,11 +28,15 @@ pub fn rounded(inst: &Instance, w: Weight, part: &Part, y: &Eighths) -> Option<L
 
     // There is a list to which the point is rounded, and no other.
     ensures one { (x : List ℕ) × IsRounding inst.now w.p w.q part.now y.now x }
-    ensures only { (x z : List ℕ) → IsRounding inst.now w.p w.q part.now y.now x → IsRounding inst.now w.p w.q part.now y.now z → x ≡ z }
+    ensures only { (x z : List ℕ) → IsRounding inst.now w.p w.q part.now y.now x
+        → IsRounding inst.now w.p w.q part.now y.now z → x ≡ z }
 
-    ensures none { IsNone result ↔ ((x : List ℕ) → IsRounding inst.now w.p w.q part.now y.now x → MeetsLimits inst.now x → ⊥) }
+    ensures none { IsNone result
+        ↔ ((x : List ℕ) → IsRounding inst.now w.p w.q part.now y.now x → MeetsLimits inst.now x → ⊥) }
     ensures meets { IfSome result (MeetsLimits inst.now) }
-    ensures better { IfSome result (λ z. (x : List ℕ) → IsRounding inst.now w.p w.q part.now y.now x → objective inst.now w.p w.q z ≤ℤ objective inst.now w.p w.q x) }
+    ensures better { IfSome result
+        (λ z. (x : List ℕ) → IsRounding inst.now w.p w.q part.now y.now x
+        → objective inst.now w.p w.q z ≤ℤ objective inst.now w.p w.q x) }
     ensures best { IfSome result (HasNoBetterNeighbour inst.now w.p w.q) }
 {
     let marks = chosen(inst, part, y);
@@ -160,7 +164,8 @@ fn rounded_down(inst: &Instance, marks: &Lots, y: &Eighths) -> Lots
 /// Eighths of asset `i` in whole lots, rounded down and brought into its limits.
 fn whole_lots(inst: &Instance, i: u16, eighths: u32) -> u16
     requires { i < inst.now.market.assets }
-    ensures value { result ≡ max (slice_index_or inst.now.least i 0) (min (eighths / 8) (slice_index_or inst.now.greatest i 0)) }
+    ensures value { result ≡ max (slice_index_or inst.now.least i 0)
+        (min (eighths / 8) (slice_index_or inst.now.greatest i 0)) }
     ensures small { result ≤ inst.now.lots }
 {
     let most = u32::from(inst.hi(i));

@@ -141,7 +141,10 @@ fn gives(inst: &Instance, marks: &Lots, first: &Lots) -> bool
 /// Is the turnover of the list that `first` is brought to within the limit?
 fn turns_enough(inst: &Instance, first: &Lots) -> bool
     requires { length first.now ≡ inst.now.market.assets }
-    ensures { IsTrue result ↔ ForSome inst.now.turnover (λ t. (turnover_of inst.now.market.assets inst.now.present first.now +ℤ abs_z (pos inst.now.lots -ℤ sum_of inst.now.market.assets first.now)) ≤ℤ pos t) }
+    ensures { IsTrue result
+        ↔ ForSome inst.now.turnover
+        (λ t. (turnover_of inst.now.market.assets inst.now.present first.now
+        +ℤ abs_z (pos inst.now.lots -ℤ sum_of inst.now.market.assets first.now)) ≤ℤ pos t) }
 {
     match inst.turnover() {
         Some(most) => {

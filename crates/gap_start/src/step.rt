@@ -72,7 +72,8 @@ fn best_from(h: &Holding<'_>, kind: Kind, i: u16, before: Found) -> Found
     requires before { IsFound h.now.instance h.now.weight.p h.now.weight.q h.now.lots before }
     ensures found { IsFound h.now.instance h.now.weight.p h.now.weight.q h.now.lots result }
     ensures better { result.value ≤ℤ before.value }
-    ensures none { NoneBelowFrom h.now.instance h.now.weight.p h.now.weight.q h.now.lots result.value kind i h.now.instance.market.assets }
+    ensures none { NoneBelowFrom h.now.instance h.now.weight.p h.now.weight.q h.now.lots result.value kind i
+        h.now.instance.market.assets }
 {
     let mut found = before;
     if h.lots().get(i) == 0 {

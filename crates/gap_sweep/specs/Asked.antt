@@ -59,7 +59,8 @@ warm_behind warm [] = warm
 warm_behind warm (d ∷ done) = warm_behind (portfolio d) done
 
 -- a weight was done as it should be with a budget of splits, from the list of the weight before where there was one
-pub record IsDone (I : InstanceValue) (shift : ShiftValue) (nodes : ℕ) (warm : Option (List ℕ)) (weight : Weight) (d : Done) : Type 0 where
+pub record IsDone (I : InstanceValue) (shift : ShiftValue) (nodes : ℕ) (warm : Option (List ℕ)) (weight : Weight)
+    (d : Done) : Type 0 where
   pub solved_is : IsSolved I shift weight nodes warm d.solved
   pub section_is : IsSectionOf I.market.assets d.solved d.section
 
@@ -67,4 +68,5 @@ pub record IsDone (I : InstanceValue) (shift : ShiftValue) (nodes : ℕ) (warm :
 abbrev pub AreDone : InstanceValue → ShiftValue → ℕ → Option (List ℕ) → List Weight → List Done → Type 0
 AreDone I shift nodes warm weights [] = Unit {0}
 AreDone I shift nodes warm [] (d ∷ done) = ⊥
-AreDone I shift nodes warm (weight ∷ weights) (d ∷ done) = IsDone I shift nodes warm weight d × AreDone I shift nodes (portfolio d) weights done
+AreDone I shift nodes warm (weight ∷ weights) (d ∷ done) =
+    IsDone I shift nodes warm weight d × AreDone I shift nodes (portfolio d) weights done

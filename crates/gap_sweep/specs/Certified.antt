@@ -10,7 +10,8 @@ use Rattle.gap_head.specs.HeadOf.{head_of}
 use Rattle.gap_sweep.specs.Asked.{Asked, Done}
 use Rattle.gap_sweep.specs.Runs.{HasDone}
 
--- what a sweep is asked is in its ranges: the instance is one, as a certificate's head says it, the budget is at most 100000,
+-- what a sweep is asked is in its ranges: the instance is one, as a certificate's head says it, the budget is at most
+-- 100000,
 -- and there are 1 to 101 weights
 pub record IsAsked (asked : Asked) : Type 0 where
   pub instance_is : IsInstance asked.instance

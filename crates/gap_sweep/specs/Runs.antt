@@ -25,8 +25,10 @@ pub record Finished (asked : Asked) (old new : Streams) : Type 0 where
 -- a sweep stopped behind the start of its file: it put out a front of what is due for weights that were done, without the
 -- end; or, when all of them were done, a proper front of the whole
 pub data Stopped (asked : Asked) (old new : Streams) : Type 0 where
-  under_way : (shift : ShiftValue) (done : List Done) → HasDone asked shift done → DidFront old new (begun_trace asked shift done) → Stopped asked old new
-  at_the_end : (shift : ShiftValue) (done : List Done) → HasDone asked shift done → length done ≡ length asked.weights → DidLess old new (whole_trace asked shift done) → Stopped asked old new
+  under_way : (shift : ShiftValue) (done : List Done) → HasDone asked shift done
+      → DidFront old new (begun_trace asked shift done) → Stopped asked old new
+  at_the_end : (shift : ShiftValue) (done : List Done) → HasDone asked shift done → length done ≡ length asked.weights
+      → DidLess old new (whole_trace asked shift done) → Stopped asked old new
 
 -- what a sweep that stopped has left, from the files f and the sink s to g and t: the file as it was or empty, and nothing
 -- printed; or what was put out behind the start of the file
@@ -40,7 +42,8 @@ Solves asked name f s g t (Err halt) = Leaves asked name f s g t
 
 -- a sweep over the named file, from the files f and the sink s to g and t: what it has put out; why it stopped, where it
 -- did: a write fault only where the count of the sink rose or the file's count of write faults; and what stays
-pub record Runs (asked : Asked) (name : List ℕ) (f : FilesNow) (s : SinkNow) (g : FilesNow) (t : SinkNow) (result : Result (Unit {0}) Halt) : Type 0 where
+pub record Runs (asked : Asked) (name : List ℕ) (f : FilesNow) (s : SinkNow) (g : FilesNow) (t : SinkNow)
+    (result : Result (Unit {0}) Halt) : Type 0 where
   pub solves : Solves asked name f s g t result
   pub cause : HasCause name f s g t result
   pub keeps : Keeps name f s g t

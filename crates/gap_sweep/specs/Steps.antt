@@ -28,7 +28,8 @@ pub record IsCarriedOn (I : InstanceValue) (number : ℕ) (old new : Carried) (d
 
 -- a weight was tried: it was done and put out, or it stopped, before it was solved or behind
 pub record Tries (I : InstanceValue) (shift : ShiftValue) (nodes : ℕ) (weight : Weight) (number : ℕ) (old new : Carried)
-    (name : List ℕ) (f : FilesNow) (s : SinkNow) (g : FilesNow) (t : SinkNow) (result : Result (Unit {0}) Halt) : Type 0 where
+    (name : List ℕ) (f : FilesNow) (s : SinkNow) (g : FilesNow) (t : SinkNow) (result : Result (Unit {0}) Halt) : Type
+    0 where
   pub done : List Done
   pub right : AreDone I shift nodes old.warm (weight ∷ []) done
   pub all : IsOk result → length done ≡ 1
@@ -36,7 +37,8 @@ pub record Tries (I : InstanceValue) (shift : ShiftValue) (nodes : ℕ) (weight 
   pub step : Step name f s g t (weights_trace I.lots done) result
 
 -- the first `count` weights were done and put out
-pub record SweptTo (I : InstanceValue) (shift : ShiftValue) (nodes : ℕ) (weights : List Weight) (count : ℕ) (carried : Carried)
+pub record SweptTo (I : InstanceValue) (shift : ShiftValue) (nodes : ℕ) (weights : List Weight) (count : ℕ)
+    (carried : Carried)
     (name : List ℕ) (f : FilesNow) (s : SinkNow) (g : FilesNow) (t : SinkNow) : Type 0 where
   pub done : List Done
   pub right : AreDone I shift nodes None weights done
@@ -46,7 +48,8 @@ pub record SweptTo (I : InstanceValue) (shift : ShiftValue) (nodes : ℕ) (weigh
 
 -- the weights were done and put out, or it stopped on the way
 pub record Sweeps (I : InstanceValue) (shift : ShiftValue) (nodes : ℕ) (weights : List Weight) (carried : Carried)
-    (name : List ℕ) (f : FilesNow) (s : SinkNow) (g : FilesNow) (t : SinkNow) (result : Result (Unit {0}) Halt) : Type 0 where
+    (name : List ℕ) (f : FilesNow) (s : SinkNow) (g : FilesNow) (t : SinkNow) (result : Result (Unit {0}) Halt) : Type
+    0 where
   pub done : List Done
   pub right : AreDone I shift nodes None weights done
   pub all : IsOk result → length done ≡ length weights
@@ -54,7 +57,8 @@ pub record Sweeps (I : InstanceValue) (shift : ShiftValue) (nodes : ℕ) (weight
   pub step : Step name f s g t (weights_trace I.lots done) result
 
 -- the last step: what is due was put out, or it stopped with a proper front of it
-pub record Closes (name : List ℕ) (f : FilesNow) (s : SinkNow) (g : FilesNow) (t : SinkNow) (due : List Mark) (result : Result (Unit {0}) Halt) : Type 0 where
+pub record Closes (name : List ℕ) (f : FilesNow) (s : SinkNow) (g : FilesNow) (t : SinkNow) (due : List Mark)
+    (result : Result (Unit {0}) Halt) : Type 0 where
   pub step : Step name f s g t due result
   pub less : IsErr result → DidLess (streams name f s) (streams name g t) due
 
@@ -63,7 +67,8 @@ Ends asked name f s g t (Ok value) = Finished asked (streams name f s) (streams 
 Ends asked name f s g t (Err halt) = Stopped asked (streams name f s) (streams name g t)
 
 -- a sweep behind the start of its file
-pub record GoesOn (asked : Asked) (name : List ℕ) (f : FilesNow) (s : SinkNow) (g : FilesNow) (t : SinkNow) (result : Result (Unit {0}) Halt) : Type 0 where
+pub record GoesOn (asked : Asked) (name : List ℕ) (f : FilesNow) (s : SinkNow) (g : FilesNow) (t : SinkNow)
+    (result : Result (Unit {0}) Halt) : Type 0 where
   pub ends : Ends asked name f s g t result
   pub cause : HasCause name f s g t result
   pub keeps : Keeps name f s g t

@@ -41,7 +41,8 @@ portfolio_text (Some best) = lots_line best.lots
 
 -- the line of a weight
 abbrev pub weight_text : ℕ → SolvedValue → List ℕ
-weight_text lots solved = weight_line lots (record { weight = solved.weight; outcome = solved.outcome }) (splits_of solved.nodes)
+weight_text lots solved =
+    weight_line lots (record { weight = solved.weight; outcome = solved.outcome }) (splits_of solved.nodes)
 
 -- the row of a portfolio
 abbrev pub row_of : InstanceValue → Weight → Best → FrontRow
@@ -69,7 +70,8 @@ front_numbers number (d ∷ done) = own_number number (best_in d.solved.outcome)
 
 -- does a row dominate another? Its risk isn't greater, its return isn't smaller, and one of the two is better
 abbrev pub dominates : FrontRow → FrontRow → Bool
-dominates row other = (le_z row.risk other.risk && le_z other.ret row.ret) && (lt_z row.risk other.risk || lt_z other.ret row.ret)
+dominates row other =
+    (le_z row.risk other.risk && le_z other.ret row.ret) && (lt_z row.risk other.risk || lt_z other.ret row.ret)
 
 -- does none of these rows dominate a row?
 abbrev pub is_efficient : List FrontRow → FrontRow → Bool
@@ -79,7 +81,8 @@ is_efficient rows row = list_all (λ other. not (dominates other row)) rows
 abbrev pub front_text : ℕ → List FrontRow → List ℕ → List FrontRow → List ℕ
 front_text lots all [] rows = []
 front_text lots all (number ∷ numbers) [] = []
-front_text lots all (number ∷ numbers) (row ∷ rows) = front_line lots number row (is_efficient all row) ++ front_text lots all numbers rows
+front_text lots all (number ∷ numbers) (row ∷ rows) =
+    front_line lots number row (is_efficient all row) ++ front_text lots all numbers rows
 
 -- the lines of the frontier, where they come
 abbrev pub frontier_text : InstanceValue → Style → List Done → List ℕ

@@ -13,12 +13,14 @@ use Rattle.gap_sweep.specs.Texts.{head_bytes, end_bytes, market_text, weight_tex
 -- before any weight: the head into the file, then the line of the market
 unfoldable pub opening_trace : Asked → ShiftValue → List Mark
 opening_trace asked shift =
-    appends (head_bytes asked.instance shift asked.nodes (length asked.weights)) ++ prints (market_text asked.style asked.instance asked.rounded shift)
+    appends (head_bytes asked.instance shift asked.nodes (length asked.weights))
+    ++ prints (market_text asked.style asked.instance asked.rounded shift)
 
 -- for a weight: its section into the file, then its line, then the line of its lots
 unfoldable pub weight_trace : ℕ → Done → List Mark
 weight_trace lots d =
-    (appends (section_bytes d.section) ++ prints (weight_text lots d.solved)) ++ prints (portfolio_text (best_in d.solved.outcome))
+    (appends (section_bytes d.section) ++ prints (weight_text lots d.solved))
+    ++ prints (portfolio_text (best_in d.solved.outcome))
 
 -- the weights one after the other
 abbrev pub weights_trace : ℕ → List Done → List Mark

@@ -57,7 +57,8 @@ impl Carried {
     ) -> Result<(), OutOfMemory>
         requires { MeetsLimits inst.now best.now.lots }
         ensures warm { OnOk result (self.new.warm ≡ lots_of (Some best.now)) }
-        ensures numbers { OnOk result (self.new.numbers.items ≡ self.old.numbers.items ++ own_number number (Some best.now)) }
+        ensures numbers { OnOk result
+            (self.new.numbers.items ≡ self.old.numbers.items ++ own_number number (Some best.now)) }
         ensures rows { OnOk result (self.new.rows.items ≡ self.old.rows.items ++ own_row inst.now weight (Some best.now)) }
     {
         self.numbers.push(number)?;
@@ -76,8 +77,10 @@ impl Carried {
     ) -> Result<(), OutOfMemory>
         requires { ForSome (option_copied best) (λ b. MeetsLimits inst.now b.lots) }
         ensures warm { OnOk result (self.new.warm ≡ lots_of (option_copied best.entry)) }
-        ensures numbers { OnOk result (self.new.numbers.items ≡ self.old.numbers.items ++ own_number number (option_copied best.entry)) }
-        ensures rows { OnOk result (self.new.rows.items ≡ self.old.rows.items ++ own_row inst.now weight (option_copied best.entry)) }
+        ensures numbers { OnOk result
+            (self.new.numbers.items ≡ self.old.numbers.items ++ own_number number (option_copied best.entry)) }
+        ensures rows { OnOk result
+            (self.new.rows.items ≡ self.old.rows.items ++ own_row inst.now weight (option_copied best.entry)) }
     {
         match best {
             Some(best) => self.keep(number, inst, weight, best),

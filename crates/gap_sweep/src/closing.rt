@@ -47,7 +47,8 @@ pub(crate) fn close<F: Files, S: Sink>(
 ) -> Result<(), Halt>
     requires { length carried.now.numbers.items ≡ length carried.now.rows.items }
     ensures { (done : List Done) → IsCarried inst.now carried.now done
-        → Closes name.now (F.files files.old) (S.sink out.old) (F.files files.new) (S.sink out.new) (closing_trace inst.now style done) result }
+        → Closes name.now (F.files files.old) (S.sink out.old) (F.files files.new) (S.sink out.new)
+        (closing_trace inst.now style done) result }
 {
     print_frontier(alloc, inst, style, carried, out)?;
     append_end(alloc, files, name)

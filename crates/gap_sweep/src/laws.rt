@@ -32,25 +32,30 @@ pub fn sweeps_certify()
         → length done ≡ length asked.weights → IsValid (certificate asked shift (sections_of done)) }
     ensures encoded { (asked : Asked) (shift : ShiftValue) (done : List Done) → IsAsked asked → HasDone asked shift done
         → length done ≡ length asked.weights
-        → Encodes Two (spelling Two (certificate asked shift (sections_of done))) (certificate asked shift (sections_of done)) }
+        → Encodes Two (spelling Two (certificate asked shift (sections_of done)))
+        (certificate asked shift (sections_of done)) }
 {}
 
 /// A sweep that stopped leaves in its file, where contents are told, what was there or nothing, or a proper front of each
 /// certificate whose first sections are those of the weights that were done.
 pub fn stops_leave_fronts()
     ensures { (asked : Asked) (name : List ℕ) (f : FilesNow) (s : SinkNow) (g : FilesNow) (t : SinkNow) (halt : Halt)
-        → Runs asked name f s g t (Err halt) → ForSome (stream name f) (λ was. IsUnstarted name f s g t ⊎ IsCut asked (stream name g)) }
+        → Runs asked name f s g t (Err halt)
+        → ForSome (stream name f) (λ was. IsUnstarted name f s g t ⊎ IsCut asked (stream name g)) }
 {}
 
 /// A row is ranked as efficient exactly where none of the rows dominates it.
 pub fn rows_are_ranked()
-    ensures { (rows : List FrontRow) (row : FrontRow) → IsTrue (is_efficient rows row) ↔ All (λ other. ¬ (Dominates other row)) rows }
+    ensures { (rows : List FrontRow) (row : FrontRow)
+        → IsTrue (is_efficient rows row) ↔ All (λ other. ¬ (Dominates other row)) rows }
 {}
 
-/// Over two closed weights p/q and u/v of which the second gives more weight to risk, its portfolio has neither more risk nor
+/// Over two closed weights p/q and u/v of which the second gives more weight to risk, its portfolio has neither more
+/// risk nor
 /// more return.
 pub fn frontier_is_monotone()
     ensures { (I : InstanceValue) (p q u v : ℕ) (first second : Best) → 1 ≤ I.lots → p ≤ q → u ≤ v → p * v < u * q
         → IsRight I p q (Closed first) → IsRight I u v (Closed second)
-        → (risk_of I.market second.lots ≤ℤ risk_of I.market first.lots) × (return_of I.market second.lots ≤ℤ return_of I.market first.lots) }
+        → (risk_of I.market second.lots ≤ℤ risk_of I.market first.lots)
+        × (return_of I.market second.lots ≤ℤ return_of I.market first.lots) }
 {}

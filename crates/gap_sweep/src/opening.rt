@@ -53,7 +53,9 @@ pub(crate) fn open<F: Files, S: Sink>(
 ) -> Result<(), Halt>
     requires { shift.now.assets ≡ inst.now.market.assets }
     ensures { Step name.now (F.files files.old) (S.sink out.old) (F.files files.new) (S.sink out.new)
-        (opening_trace (record { instance = inst.now; rounded = rounded; weights = weights.now; nodes = nodes; style = style }) shift.now) result }
+        (opening_trace
+        (record { instance = inst.now; rounded = rounded; weights = weights.now; nodes = nodes; style = style })
+        shift.now) result }
 {
     append_head(alloc, inst, shift, nodes, weights.len(), files, name)?;
     print_market(alloc, style, inst, rounded, shift, out)

@@ -34,7 +34,8 @@ pub(crate) fn append_head<F: Files>(
 
 /// Appends the end mark.
 pub(crate) fn append_end<F: Files>(alloc: Global, files: &mut F, name: &str) -> Result<(), Halt>
-    ensures { (sink : SinkNow) → Closes name.now (F.files files.old) sink (F.files files.new) sink (appends end_bytes) result }
+    ensures { (sink : SinkNow)
+        → Closes name.now (F.files files.old) sink (F.files files.new) sink (appends end_bytes) result }
 {
     let mut writer = Writer::new(alloc);
     writer.end()?;

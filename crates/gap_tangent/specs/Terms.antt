@@ -30,7 +30,8 @@ constant_at s y = neg_ℤ (pos s.p *ℤ product_of s y y)
 
 -- the costs of all assets, by lists of slopes and bends
 unfoldable pub costs_of : InstanceValue → List ℤ → List ℤ → ℤ → ℤ → List ℕ → ℤ
-costs_of I slopes bends alpha tau x = sum_below I.market.assets (λ i. asset_cost (at slopes i +ℤ alpha) (at bends i) tau (lots_at I.present i) (lots_at x i))
+costs_of I slopes bends alpha tau x =
+    sum_below I.market.assets (λ i. asset_cost (at slopes i +ℤ alpha) (at bends i) tau (lots_at I.present i) (lots_at x i))
 
 -- tau times the turnover limit; nothing where none is set
 abbrev pub turnover_price : Option ℕ → ℤ → ℤ

@@ -16,7 +16,8 @@ use gap_base::Eighths;
 fn kept_gradient(mv: &MeanVariance<'_>, y: &Eighths, gradients: &[i128; 256], i: u16) -> i128
     requires there { i < (setting_of mv.now).instance.market.assets }
     requires point { IsPoint (setting_of mv.now).instance y.now }
-    requires kept { (k : ℕ) → k < (setting_of mv.now).instance.market.assets → at gradients.now k ≡ gradient_of (setting_of mv.now) (lots_at y.now) k }
+    requires kept { (k : ℕ) → k < (setting_of mv.now).instance.market.assets
+        → at gradients.now k ≡ gradient_of (setting_of mv.now) (lots_at y.now) k }
     ensures value { result ≡ gradient_of (setting_of mv.now) (lots_at y.now) i }
     ensures small { unsigned_abs result ≤ 16250000000000000000000000000 }
 {
@@ -49,8 +50,10 @@ fn weighed(pull: i128, eighths: u32) -> i128
 fn term_at(mv: &MeanVariance<'_>, y: &Eighths, gradients: &[i128; 256], i: u16) -> i128
     requires there { i < (setting_of mv.now).instance.market.assets }
     requires point { IsPoint (setting_of mv.now).instance y.now }
-    requires kept { (k : ℕ) → k < (setting_of mv.now).instance.market.assets → at gradients.now k ≡ gradient_of (setting_of mv.now) (lots_at y.now) k }
-    ensures value { result ≡ (gradient_of (setting_of mv.now) (lots_at y.now) i +ℤ pos 8 *ℤ reward_of (setting_of mv.now) i) *ℤ lots_at y.now i }
+    requires kept { (k : ℕ) → k < (setting_of mv.now).instance.market.assets
+        → at gradients.now k ≡ gradient_of (setting_of mv.now) (lots_at y.now) k }
+    ensures value { result ≡ (gradient_of (setting_of mv.now) (lots_at y.now) i
+        +ℤ pos 8 *ℤ reward_of (setting_of mv.now) i) *ℤ lots_at y.now i }
     ensures small { unsigned_abs result ≤ 1300640000000000000000000000000000 }
 {
     let pull = pull(kept_gradient(mv, y, gradients, i), reward_at(mv, i));
@@ -61,8 +64,11 @@ fn term_at(mv: &MeanVariance<'_>, y: &Eighths, gradients: &[i128; 256], i: u16) 
 #[tactic(auto, using(gap_base::proofs::SumLaws::sum_steps))]
 fn pull_sum(mv: &MeanVariance<'_>, y: &Eighths, gradients: &[i128; 256]) -> i128
     requires point { IsPoint (setting_of mv.now).instance y.now }
-    requires kept { (k : ℕ) → k < (setting_of mv.now).instance.market.assets → at gradients.now k ≡ gradient_of (setting_of mv.now) (lots_at y.now) k }
-    ensures value { result ≡ sum_below (setting_of mv.now).instance.market.assets (λ i. (gradient_of (setting_of mv.now) (lots_at y.now) i +ℤ pos 8 *ℤ reward_of (setting_of mv.now) i) *ℤ lots_at y.now i) }
+    requires kept { (k : ℕ) → k < (setting_of mv.now).instance.market.assets
+        → at gradients.now k ≡ gradient_of (setting_of mv.now) (lots_at y.now) k }
+    ensures value { result ≡ sum_below (setting_of mv.now).instance.market.assets
+        (λ i. (gradient_of (setting_of mv.now) (lots_at y.now) i +ℤ pos 8 *ℤ reward_of (setting_of mv.now) i)
+        *ℤ lots_at y.now i) }
     ensures small { unsigned_abs result ≤ 256 * 1300640000000000000000000000000000 }
 {
     let mut sum: i128 = 0;
@@ -85,7 +91,8 @@ fn half(number: i128) -> i128
 /// What a tangent has at no asset: `-p y'Ay`. Costs O(N).
 pub(crate) fn constant_of(mv: &MeanVariance<'_>, y: &Eighths, gradients: &[i128; 256]) -> i128
     requires point { IsPoint (setting_of mv.now).instance y.now }
-    requires kept { (k : ℕ) → k < (setting_of mv.now).instance.market.assets → at gradients.now k ≡ gradient_of (setting_of mv.now) (lots_at y.now) k }
+    requires kept { (k : ℕ) → k < (setting_of mv.now).instance.market.assets
+        → at gradients.now k ≡ gradient_of (setting_of mv.now) (lots_at y.now) k }
     ensures { result ≡ constant_at (setting_of mv.now) (lots_at y.now) }
 {
     -half(pull_sum(mv, y, gradients))

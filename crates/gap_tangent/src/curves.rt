@@ -18,7 +18,9 @@ pub struct AlphaCurve<'a> {
     pub(crate) part: &'a Part,
     pub(crate) tau: i128,
     pub(crate) priced: PricedCurve<'a>,
-    pub ghost kept: { IsCurveOf (λ (m : ℤ) (x : List ℕ). lag tangent.now.setting (lots_at tangent.now.eighths) m tau x) part.now tangent.now.setting.instance.held tangent.now.setting.instance.held_most (curve_of priced.costs) priced.fixed priced.limit },
+    pub ghost kept: { IsCurveOf (λ (m : ℤ) (x : List ℕ). lag tangent.now.setting (lots_at tangent.now.eighths) m tau
+        x) part.now tangent.now.setting.instance.held tangent.now.setting.instance.held_most (curve_of priced.costs)
+        priced.fixed priced.limit },
 }
 
 /// Theta over the multiplier of the turnover, where a limit is set. What the candidates of each cell cost is kept, so a
@@ -29,5 +31,7 @@ pub struct TauCurve<'a> {
     pub(crate) part: &'a Part,
     pub(crate) alpha: i128,
     pub(crate) priced: PricedCurve<'a>,
-    pub ghost kept: { IsCurveOf (λ (m : ℤ) (x : List ℕ). lag tangent.now.setting (lots_at tangent.now.eighths) alpha m x) part.now tangent.now.setting.instance.held tangent.now.setting.instance.held_most (curve_of priced.costs) priced.fixed priced.limit },
+    pub ghost kept: { IsCurveOf (λ (m : ℤ) (x : List ℕ). lag tangent.now.setting (lots_at tangent.now.eighths) alpha m
+        x) part.now tangent.now.setting.instance.held tangent.now.setting.instance.held_most (curve_of priced.costs)
+        priced.fixed priced.limit },
 }

@@ -116,7 +116,8 @@ fn gradient_at(mv: &MeanVariance<'_>, y: &Eighths, rows: &[i128; 256], i: u16) -
 pub(crate) fn gradients_of(mv: &MeanVariance<'_>, y: &Eighths, rows: &[i128; 256]) -> [i128; 256]
     requires point { IsPoint (setting_of mv.now).instance y.now }
     requires rows { AreRows (setting_of mv.now).instance.market y.now rows.now }
-    ensures { (i : ℕ) → i < (setting_of mv.now).instance.market.assets → at result i ≡ gradient_of (setting_of mv.now) (lots_at y.now) i }
+    ensures { (i : ℕ) → i < (setting_of mv.now).instance.market.assets
+        → at result i ≡ gradient_of (setting_of mv.now) (lots_at y.now) i }
 {
     let mut gradients = [0; 256];
     for i in 0..mv.instance.n() {

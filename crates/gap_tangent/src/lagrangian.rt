@@ -37,7 +37,9 @@ fn cost_curve<'a>(
     requires present { terms.present.now ≡ inst.now.present }
     requires lot { unsigned_abs lot_price ≤ most_multiplier }
     requires distance { unsigned_abs distance_price ≤ most_multiplier }
-    ensures some { IfSome result (λ c. curve_of c ≡ curve_at inst.now terms.entry.slopes.now terms.entry.bends.now lot_price distance_price varied part.now) }
+    ensures some { IfSome result
+        (λ c. curve_of c ≡ curve_at inst.now terms.entry.slopes.now terms.entry.bends.now lot_price distance_price
+        varied part.now) }
     ensures none { IsNone result ↔ IsFalse (can_meet part.now inst.now.held inst.now.held_most) }
 {
     let n = usize::from(inst.n());
@@ -92,7 +94,9 @@ pub(crate) fn lots_curve<'a>(
     requires present { terms.present.now ≡ inst.now.present }
     requires constant { unsigned_abs constant ≤ most_constant }
     requires tau { AreMultipliers inst.now.turnover (pos 0) tau }
-    ensures curve { IfSome result (λ c. curve_of c.costs ≡ curve_at inst.now terms.entry.slopes.now terms.entry.bends.now (pos 0) tau ByLots part.now) }
+    ensures curve { IfSome result
+        (λ c. curve_of c.costs
+        ≡ curve_at inst.now terms.entry.slopes.now terms.entry.bends.now (pos 0) tau ByLots part.now) }
     ensures fixed { IfSome result (λ c. c.fixed ≡ constant -ℤ turnover_price inst.now.turnover tau) }
     ensures limit { IfSome result (λ c. c.limit ≡ inst.now.lots) }
     ensures none { IsNone result ↔ IsFalse (can_meet part.now inst.now.held inst.now.held_most) }
@@ -122,7 +126,9 @@ pub(crate) fn turnover_curve<'a>(
     requires constant { unsigned_abs constant ≤ most_constant }
     requires alpha { unsigned_abs alpha ≤ most_multiplier }
     requires most { most ≤ 3000000 }
-    ensures curve { IfSome result (λ c. curve_of c.costs ≡ curve_at inst.now terms.entry.slopes.now terms.entry.bends.now alpha (pos 0) ByDistance part.now) }
+    ensures curve { IfSome result
+        (λ c. curve_of c.costs
+        ≡ curve_at inst.now terms.entry.slopes.now terms.entry.bends.now alpha (pos 0) ByDistance part.now) }
     ensures fixed { IfSome result (λ c. c.fixed ≡ constant -ℤ (alpha *ℤ pos inst.now.lots)) }
     ensures limit { IfSome result (λ c. c.limit ≡ most) }
     ensures none { IsNone result ↔ IsFalse (can_meet part.now inst.now.held inst.now.held_most) }

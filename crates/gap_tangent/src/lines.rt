@@ -83,8 +83,10 @@ impl<'m> Tangent<'m> {
     pub fn alpha_curve<'a>(&'a self, part: &'a Part, tau: i128) -> Option<AlphaCurve<'a>>
         requires within { IsWithin part.now (root_cells self.now.setting.instance.least self.now.setting.instance.greatest) }
         requires tau { AreMultipliers self.now.setting.instance.turnover (pos 0) tau }
-        ensures some { IfSome result (λ c. alpha_value c ≡ alpha_curve self.now.setting part.now (lots_at self.now.eighths) tau) }
-        ensures none { IsNone result ↔ IsFalse (can_meet part.now self.now.setting.instance.held self.now.setting.instance.held_most) }
+        ensures some { IfSome result
+            (λ c. alpha_value c ≡ alpha_curve self.now.setting part.now (lots_at self.now.eighths) tau) }
+        ensures none { IsNone result
+            ↔ IsFalse (can_meet part.now self.now.setting.instance.held self.now.setting.instance.held_most) }
     {
         let _cells = part.len();
         let inst = self.bound.instance;
@@ -110,8 +112,10 @@ impl<'m> Tangent<'m> {
         requires within { IsWithin part.now (root_cells self.now.setting.instance.least self.now.setting.instance.greatest) }
         requires limited { IsSome self.now.setting.instance.turnover }
         requires alpha { unsigned_abs alpha ≤ most_multiplier }
-        ensures some { IfSome result (λ c. tau_value c ≡ tau_curve self.now.setting part.now (lots_at self.now.eighths) alpha) }
-        ensures none { IsNone result ↔ IsFalse (can_meet part.now self.now.setting.instance.held self.now.setting.instance.held_most) }
+        ensures some { IfSome result
+            (λ c. tau_value c ≡ tau_curve self.now.setting part.now (lots_at self.now.eighths) alpha) }
+        ensures none { IsNone result
+            ↔ IsFalse (can_meet part.now self.now.setting.instance.held self.now.setting.instance.held_most) }
     {
         let _cells = part.len();
         let inst = self.bound.instance;
@@ -141,7 +145,8 @@ impl<'m> Tangent<'m> {
         ensures place { IfSome result (λ l. l.place ≡ alpha) }
         ensures line { IfSome result (IsLine (alpha_curve self.now.setting part.now (lots_at self.now.eighths) tau)) }
         ensures small { IfSome result (λ l. unsigned_abs l.value ≤ most_theta) }
-        ensures none { IsNone result ↔ IsFalse (can_meet part.now self.now.setting.instance.held self.now.setting.instance.held_most) }
+        ensures none { IsNone result
+            ↔ IsFalse (can_meet part.now self.now.setting.instance.held self.now.setting.instance.held_most) }
     {
         match self.alpha_curve(part, tau) {
             Some(curve) => Some(curve.at(alpha)),

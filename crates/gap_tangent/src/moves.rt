@@ -58,7 +58,8 @@ fn gained(mv: &MeanVariance<'_>, k: u16, i: u16, j: u16, s: u32) -> i128
     requires giver { i < (setting_of mv.now).instance.market.assets }
     requires taker { j < (setting_of mv.now).instance.market.assets }
     requires s { s ≤ 80000 }
-    ensures value { result ≡ pos (2 * (setting_of mv.now).p * s) *ℤ (shifted_cov (setting_of mv.now) k j -ℤ shifted_cov (setting_of mv.now) k i) }
+    ensures value { result ≡ pos (2 * (setting_of mv.now).p * s)
+        *ℤ (shifted_cov (setting_of mv.now) k j -ℤ shifted_cov (setting_of mv.now) k i) }
     ensures small { unsigned_abs result ≤ 32032000000000000000000000000 }
 {
     let steep = steepness(mv.weight.p, s);
@@ -88,8 +89,13 @@ pub(crate) fn move_gradients(
     requires giver { i < (setting_of mv.now).instance.market.assets }
     requires taker { j < (setting_of mv.now).instance.market.assets }
     requires s { s ≤ 80000 }
-    requires small { (k : ℕ) → k < (setting_of mv.now).instance.market.assets → unsigned_abs (at gradients.old k) ≤ 16250000000000000000000000000 }
-    ensures { (k : ℕ) → k < (setting_of mv.now).instance.market.assets → at gradients.new k ≡ at gradients.old k +ℤ pos (2 * (setting_of mv.now).p * s) *ℤ (shifted_cov (setting_of mv.now) k j -ℤ shifted_cov (setting_of mv.now) k i) }
+    requires small { (k : ℕ) → k < (setting_of mv.now).instance.market.assets
+        → unsigned_abs (at gradients.old k) ≤ 16250000000000000000000000000 }
+    ensures { (k : ℕ) → k < (setting_of mv.now).instance.market.assets
+        → at gradients.new k
+        ≡ at gradients.old k
+        +ℤ pos (2 * (setting_of mv.now).p * s)
+        *ℤ (shifted_cov (setting_of mv.now) k j -ℤ shifted_cov (setting_of mv.now) k i) }
 {
     for k in 0..mv.instance.n() {
         add_to(gradients, k, gained(mv, k, i, j, s));

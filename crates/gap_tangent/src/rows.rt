@@ -37,7 +37,8 @@ fn add_column(inst: &Instance, j: u16, eighths: u32, rows: &mut [i128; 256])
     requires there { j < inst.now.market.assets }
     requires eighths { eighths ≤ 80000 }
     requires small { (i : ℕ) → i < inst.now.market.assets → unsigned_abs (at rows.old i) ≤ j * 80000000000000000000000 }
-    ensures { (i : ℕ) → i < inst.now.market.assets → at rows.new i ≡ at rows.old i +ℤ cov_of inst.now.market i j *ℤ pos eighths }
+    ensures { (i : ℕ) → i < inst.now.market.assets
+        → at rows.new i ≡ at rows.old i +ℤ cov_of inst.now.market i j *ℤ pos eighths }
 {
     for i in 0..inst.n() {
         add_to(rows, i, times(inst.cov(j, i), eighths));
@@ -49,7 +50,8 @@ fn add_eighths(inst: &Instance, j: u16, eighths: u32, rows: &mut [i128; 256])
     requires there { j < inst.now.market.assets }
     requires eighths { eighths ≤ 80000 }
     requires small { (i : ℕ) → i < inst.now.market.assets → unsigned_abs (at rows.old i) ≤ j * 80000000000000000000000 }
-    ensures { (i : ℕ) → i < inst.now.market.assets → at rows.new i ≡ at rows.old i +ℤ cov_of inst.now.market i j *ℤ pos eighths }
+    ensures { (i : ℕ) → i < inst.now.market.assets
+        → at rows.new i ≡ at rows.old i +ℤ cov_of inst.now.market i j *ℤ pos eighths }
 {
     if eighths == 0 {
         return;

@@ -17,7 +17,8 @@ use gap_model::{Entry, Shown};
 
 /// What the count shows: Empty where it can't be met.
 pub(crate) fn count_shown(mv: &MeanVariance<'_>, part: &Part) -> Shown
-    ensures { result ≡ count_shows (can_meet part.now (setting_of mv.now).instance.held (setting_of mv.now).instance.held_most) }
+    ensures { result ≡ count_shows
+        (can_meet part.now (setting_of mv.now).instance.held (setting_of mv.now).instance.held_most) }
 {
     if part.count_within(mv.instance.held(), mv.instance.held_most()) {
         Shown::Nothing
@@ -68,7 +69,8 @@ pub(crate) fn void_shown(
     tau: i128,
     third: i128,
 ) -> Shown
-    requires within { IsWithin part.now (root_cells (setting_of mv.now).instance.least (setting_of mv.now).instance.greatest) }
+    requires within { IsWithin part.now
+        (root_cells (setting_of mv.now).instance.least (setting_of mv.now).instance.greatest) }
     requires multipliers { AreMultipliers (setting_of mv.now).instance.turnover alpha tau }
     ensures { result ≡ cond (is_zero third) (void_shows (void_theta (setting_of mv.now) part.now alpha tau)) Nothing }
 {
@@ -81,7 +83,8 @@ pub(crate) fn void_shown(
 
 /// Theta at the point of the entries.
 fn theta_of(mv: &MeanVariance<'_>, part: &Part, y: &[Entry], alpha: i128, tau: i128) -> Option<i128>
-    requires within { IsWithin part.now (root_cells (setting_of mv.now).instance.least (setting_of mv.now).instance.greatest) }
+    requires within { IsWithin part.now
+        (root_cells (setting_of mv.now).instance.least (setting_of mv.now).instance.greatest) }
     requires entries { AreEntries (setting_of mv.now).instance.market.assets y.now }
     requires most { sum_by (λ (e : Entry). e.eighths) y.now ≤ 8 * (setting_of mv.now).instance.lots }
     requires multipliers { AreMultipliers (setting_of mv.now).instance.turnover alpha tau }
@@ -104,11 +107,13 @@ pub(crate) fn tangent_shown(
     tau: i128,
     third: i128,
 ) -> Shown
-    requires within { IsWithin part.now (root_cells (setting_of mv.now).instance.least (setting_of mv.now).instance.greatest) }
+    requires within { IsWithin part.now
+        (root_cells (setting_of mv.now).instance.least (setting_of mv.now).instance.greatest) }
     requires entries { AreEntries (setting_of mv.now).instance.market.assets y.now }
     requires most { sum_by (λ (e : Entry). e.eighths) y.now ≤ 8 * (setting_of mv.now).instance.lots }
     requires multipliers { AreMultipliers (setting_of mv.now).instance.turnover alpha tau }
-    ensures { result ≡ cond (is_zero third) (tangent_shows (theta (setting_of mv.now) part.now (eighths_at y.now) alpha tau)) Nothing }
+    ensures { result ≡ cond (is_zero third)
+        (tangent_shows (theta (setting_of mv.now) part.now (eighths_at y.now) alpha tau)) Nothing }
 {
     if is_zero(third) {
         tangent_of(theta_of(mv, part, y, alpha, tau))

@@ -17,7 +17,8 @@ fn slope(gradient: i128) -> i128
 
 /// The slopes of the assets at a point. Costs O(N).
 pub(crate) fn slopes_of(point: &Point<'_>) -> [i128; 256]
-    ensures slopes { (i : ℕ) → i < point.now.setting.instance.market.assets → at result i ≡ pos 8 *ℤ gradient_of point.now.setting (lots_at point.now.eighths) i }
+    ensures slopes { (i : ℕ) → i < point.now.setting.instance.market.assets
+        → at result i ≡ pos 8 *ℤ gradient_of point.now.setting (lots_at point.now.eighths) i }
     ensures room { length result ≡ 256 }
 {
     let mut slopes = [0; 256];

@@ -18,7 +18,8 @@ use gap_box::Part;
 /// which need not have the sum L. None exactly where the count can't be met. It takes no memory. Costs O(N) for each
 /// asset with eighths and O(N log N) more; `Tangent` keeps what the point alone gives where multipliers vary.
 pub fn theta(mv: &MeanVariance<'_>, part: &Part, w: &Witness) -> Option<i128>
-    requires within { IsWithin part.now (root_cells (setting_of mv.now).instance.least (setting_of mv.now).instance.greatest) }
+    requires within { IsWithin part.now
+        (root_cells (setting_of mv.now).instance.least (setting_of mv.now).instance.greatest) }
     requires point { IsPoint (setting_of mv.now).instance w.now.y }
     requires multipliers { AreMultipliers (setting_of mv.now).instance.turnover w.now.alpha w.now.tau }
     ensures value { result ≡ theta (setting_of mv.now) part.now (lots_at w.now.y) w.now.alpha w.now.tau }
@@ -30,7 +31,8 @@ pub fn theta(mv: &MeanVariance<'_>, part: &Part, w: &Witness) -> Option<i128>
 /// The least of the terms with `alpha` and `tau` alone over the lists of the part that hold from K1 to K2 assets. None
 /// exactly where the count can't be met. It takes no memory. Costs O(N log N) at most.
 pub fn void_theta(mv: &MeanVariance<'_>, part: &Part, alpha: i128, tau: i128) -> Option<i128>
-    requires within { IsWithin part.now (root_cells (setting_of mv.now).instance.least (setting_of mv.now).instance.greatest) }
+    requires within { IsWithin part.now
+        (root_cells (setting_of mv.now).instance.least (setting_of mv.now).instance.greatest) }
     requires multipliers { AreMultipliers (setting_of mv.now).instance.turnover alpha tau }
     ensures value { result ≡ void_theta (setting_of mv.now) part.now alpha tau }
     ensures small { IfSome result (λ t. unsigned_abs t ≤ most_theta) }

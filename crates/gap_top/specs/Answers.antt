@@ -19,7 +19,8 @@ FailedIn (name ∷ names) f g = Rose (f.write_faults name) (g.write_faults name)
 
 -- what a refusal ended with: its status, and its line was written; or memory was wanted, and nothing was written
 abbrev pub ReportsRefusal : Refusal → SinkNow → SinkNow → ℕ → Type 0
-ReportsRefusal why s t status = ((status ≡ refusal_status why) × WritesLine (refusal_line why) s t) ⊎ ((status ≡ 1) × WritesNothing s t)
+ReportsRefusal why s t status =
+    ((status ≡ refusal_status why) × WritesLine (refusal_line why) s t) ⊎ ((status ≡ 1) × WritesNothing s t)
 
 -- what came of a ruling: a task was done or stopped on the way, its certificate going into this file; a refusal was
 -- answered, and every content stays
@@ -34,7 +35,8 @@ pub record IsUnruled (f : FilesNow) (s : SinkNow) (g : FilesNow) (t : SinkNow) (
   pub contents : SameEverywhere f.content g.content
 
 -- this ruling of what the files hold came of a run
-pub record IsSettled (asked : FormValue) (holds : List ℕ → List ℕ) (f : FilesNow) (s : SinkNow) (g : FilesNow) (t : SinkNow) (status : ℕ) : Type 0 where
+pub record IsSettled (asked : FormValue) (holds : List ℕ → List ℕ) (f : FilesNow) (s : SinkNow) (g : FilesNow)
+    (t : SinkNow) (status : ℕ) : Type 0 where
   pub ruling : Result Task Refusal
   pub rules : Rules asked holds ruling
   pub comes : Comes ruling (cert_in asked) f s g t status

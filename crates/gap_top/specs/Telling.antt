@@ -26,12 +26,14 @@ verdict_report v = verdict_lines v.instance.lots v.sections ++ codes "yes\n"
 
 -- a verdict was told, from the files f and the sink s to g and t: its report was written, or a front of it where that
 -- stopped; what it tells of each weight is right for its instance; and the files stay
-pub record Tells (v : VerdictValue) (f : FilesNow) (s : SinkNow) (g : FilesNow) (t : SinkNow) (result : Result (Unit {0}) Stop) : Type 0 where
+pub record Tells (v : VerdictValue) (f : FilesNow) (s : SinkNow) (g : FilesNow) (t : SinkNow)
+    (result : Result (Unit {0}) Stop) : Type 0 where
   pub printed : Prints (verdict_report v) s t result
   pub right : All (IsToldRight v.instance) v.sections
   pub files : g ≡ f
 
--- what is told of the bytes of a certificate alone: they are accepted with this verdict, and it is right for the instance in them
+-- what is told of the bytes of a certificate alone: they are accepted with this verdict, and it is right for the
+-- instance in them
 pub record IsChecked (bytes : List ℕ) (v : VerdictValue) : Type 0 where
   pub accepted : Accepted bytes v
   pub right : All (IsToldRight v.instance) v.sections

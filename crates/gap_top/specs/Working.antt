@@ -29,7 +29,8 @@ cert_in (demo asked) = unnamed
 
 -- what a sweep is asked for some work, in a style
 abbrev pub asked_for : Style → Work → Asked
-asked_for style work = record { instance = work.inst; rounded = work.rounded; weights = work.weights; nodes = work.nodes; style = style }
+asked_for style work =
+    record { instance = work.inst; rounded = work.rounded; weights = work.weights; nodes = work.nodes; style = style }
 
 -- what a run ends with, by what its sweep ended with
 abbrev pub ended_by : Result (Unit {0}) Halt → Result (Unit {0}) Stop
@@ -38,7 +39,8 @@ ended_by (Err halt.WriteFault) = Err WriteFault
 ended_by (Err halt.OutOfMemory) = Err OutOfMemory
 
 -- a sweep was run, from the files f and the sink s to g and t, and this is what the run ends with
-pub record Sweeps (asked : Asked) (name : List ℕ) (f : FilesNow) (s : SinkNow) (g : FilesNow) (t : SinkNow) (result : Result (Unit {0}) Stop) : Type 0 where
+pub record Sweeps (asked : Asked) (name : List ℕ) (f : FilesNow) (s : SinkNow) (g : FilesNow) (t : SinkNow)
+    (result : Result (Unit {0}) Stop) : Type 0 where
   pub swept : Result (Unit {0}) Halt
   pub runs : Runs asked name f s g t swept
   pub ended : result ≡ ended_by swept
@@ -54,7 +56,8 @@ Does (Verify v) name f s g t result = Tells v f s g t result
 
 -- a task ended with a status: from the files m on, which have the contents and the counts of write faults that f has, since
 -- between the two files were read alone, it was done
-pub record Performs (task : Task) (name : List ℕ) (f : FilesNow) (s : SinkNow) (g : FilesNow) (t : SinkNow) (status : ℕ) : Type 0 where
+pub record Performs (task : Task) (name : List ℕ) (f : FilesNow) (s : SinkNow) (g : FilesNow) (t : SinkNow)
+    (status : ℕ) : Type 0 where
   pub m : FilesNow
   pub contents : SameEverywhere f.content m.content
   pub write_faults : SameEverywhere f.write_faults m.write_faults

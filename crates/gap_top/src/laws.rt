@@ -27,8 +27,10 @@ ghost use Rattle.gap_valid.specs.Verdicts.{VerdictValue};
 pub fn answers_are_complete()
     ensures done { (asked : FormValue) (f : FilesNow) (s : SinkNow) (g : FilesNow) (t : SinkNow) (status : ℕ) (task : Task)
         → Answers asked f s g t status → AreTold (reads asked) f → Rules asked (held f) (Ok task)
-        → ¬ (RoseIn (reads asked) f g) → ¬ (Rose s.faults t.faults) → ¬ (FailedIn (writes asked) f g) → (status ≡ 0) ⊎ (status ≡ 1) }
-    ensures refused { (asked : FormValue) (f : FilesNow) (s : SinkNow) (g : FilesNow) (t : SinkNow) (status : ℕ) (why : Refusal)
+        → ¬ (RoseIn (reads asked) f g) → ¬ (Rose s.faults t.faults) → ¬ (FailedIn (writes asked) f g)
+        → (status ≡ 0) ⊎ (status ≡ 1) }
+    ensures refused { (asked : FormValue) (f : FilesNow) (s : SinkNow) (g : FilesNow) (t : SinkNow) (status : ℕ)
+        (why : Refusal)
         → Answers asked f s g t status → AreTold (reads asked) f → Rules asked (held f) (Err why)
         → ¬ (RoseIn (reads asked) f g) → (status ≡ refusal_status why) ⊎ (status ≡ 1) }
 {}
@@ -38,11 +40,14 @@ pub fn answers_are_complete()
 /// told only where there is none.
 pub fn answers_are_right()
     ensures { (style : Style) (market : MarketValue) (job : Job) (shift : ShiftValue) (done : List Done)
-        → HasDone (asked_for style (work_of market job)) shift done → All (λ d. IsToldRight (instance_of market job) (told_of d)) done }
+        → HasDone (asked_for style (work_of market job)) shift done
+        → All (λ d. IsToldRight (instance_of market job) (told_of d)) done }
 {}
 
-/// What `check` and `verify` print is right: where a certificate is accepted, its portfolios meet every limit of the instance in
-/// its bytes and have exactly their objectives, none that meets the limits is below a bound, and that there is none is told only
+/// What `check` and `verify` print is right: where a certificate is accepted, its portfolios meet every limit of the
+/// instance in
+/// its bytes and have exactly their objectives, none that meets the limits is below a bound, and that there is none
+/// is told only
 /// where there is none. What `verify` prints is so for the market and the job of the files, whose instance, budget and
 /// weights the certificate then has.
 pub fn verdicts_are_right()

@@ -34,7 +34,8 @@ use std::alloc::Global;
 /// | 1 | want of memory | free, nothing is tied to it |
 /// | 2 | words | exactly where the words aren't in the form of a command |
 /// | 3 | read fault | only where the count of read faults of a file that the command reads rose in this call |
-/// | 4 | write fault | only where the sink's count of faults rose in this call, or CERT's count of write faults in a command that writes it |
+/// | 4 | write fault | only where the sink's count of faults rose in this call, or CERT's count of write faults in a
+/// command that writes it |
 /// | 5 | port refused | exactly where the content of PORT is no market |
 /// | 6 | job refused | exactly where the content of JOB is no job, or `quick` has HELD above the number of assets |
 /// | 7 | certificate refused | exactly where the content of CERT is no encoding of a valid certificate |
@@ -44,7 +45,8 @@ use std::alloc::Global;
 /// reading JOB, job, a fault in reading CERT, certificate, difference, the work and the writes; and it yields to want of
 /// memory. The status 2 comes before any read. A refusal writes its line, whole where the sink's count didn't rise. `quick`,
 /// `solve` and `demo` put out their report and their certificate, or a front of both in their order; the certificate of
-/// `quick` and `demo` goes into the unnamed file. `check` and `verify` write one line for each weight and `yes`, or a front of
+/// `quick` and `demo` goes into the unnamed file. `check` and `verify` write one line for each weight and `yes`, or a
+/// front of
 /// them, once the whole certificate is accepted; what they tell is right. 3 writes nothing.
 ///
 /// One pass over the bytes of PORT, JOB and a CERT that is read, O(N * N) steps and memory for N assets, and what the

@@ -32,7 +32,8 @@ fn sweep<F: Files, S: Sink>(
     out: &mut S,
 ) -> Result<(), Stop>
     requires { IsReady work.now }
-    ensures { Sweeps (asked_for style work.now) name.now (F.files files.old) (S.sink out.old) (F.files files.new) (S.sink out.new) result }
+    ensures { Sweeps (asked_for style work.now) name.now (F.files files.old) (S.sink out.old) (F.files files.new)
+        (S.sink out.new) result }
 {
     ended(solve_all(
         alloc,

@@ -28,7 +28,8 @@ pub record Keeps (name : List ℕ) (f : FilesNow) (s : SinkNow) (g : FilesNow) (
   pub later_sink : s.faults ≤ t.faults
 
 -- a step of a run, from the files f and the sink s to g and t, for which a trace is due
-pub record Step (name : List ℕ) (f : FilesNow) (s : SinkNow) (g : FilesNow) (t : SinkNow) (due : List Mark) (result : Result (Unit {0}) Halt) : Type 0 where
+pub record Step (name : List ℕ) (f : FilesNow) (s : SinkNow) (g : FilesNow) (t : SinkNow) (due : List Mark)
+    (result : Result (Unit {0}) Halt) : Type 0 where
   pub does : Does (streams name f s) (streams name g t) due result
   pub cause : HasCause name f s g t result
   pub keeps : Keeps name f s g t
@@ -44,7 +45,8 @@ MakesEmpty name f s g t (Ok value) = ForSome (f.content name) (λ before. g.cont
 MakesEmpty name f s g t (Err halt) = IsUnstarted name f s g t
 
 -- the start of a file, from the files f and the sink s to g and t
-pub record Opens (name : List ℕ) (f : FilesNow) (s : SinkNow) (g : FilesNow) (t : SinkNow) (result : Result (Unit {0}) Halt) : Type 0 where
+pub record Opens (name : List ℕ) (f : FilesNow) (s : SinkNow) (g : FilesNow) (t : SinkNow)
+    (result : Result (Unit {0}) Halt) : Type 0 where
   pub empty : MakesEmpty name f s g t result
   pub cause : HasCause name f s g t result
   pub keeps : Keeps name f s g t

@@ -27,9 +27,11 @@ pub fn start<F: Files>(files: &mut F, name: &str) -> Result<(), Halt>
 /// `WriteFault` only where the file's count of write faults rose: a front of the bytes was appended, but not all, unless
 /// there are none. `OutOfMemory`: nothing was appended.
 pub fn append<F: Files>(files: &mut F, name: &str, bytes: &[u8]) -> Result<(), Halt>
-    ensures step { (sink : SinkNow) → Step name.now (F.files files.old) sink (F.files files.new) sink (appends bytes.now) result }
+    ensures step { (sink : SinkNow)
+        → Step name.now (F.files files.old) sink (F.files files.new) sink (appends bytes.now) result }
     ensures less { IsErr result → 0 < length bytes.now → (sink : SinkNow)
-        → DidLess (streams name.now (F.files files.old) sink) (streams name.now (F.files files.new) sink) (appends bytes.now) }
+        → DidLess (streams name.now (F.files files.old) sink) (streams name.now (F.files files.new) sink)
+        (appends bytes.now) }
 {
     match files.append(name, bytes) {
         Ok(()) => Ok(()),
@@ -44,7 +46,8 @@ pub fn append<F: Files>(files: &mut F, name: &str, bytes: &[u8]) -> Result<(), H
 /// `WriteFault` only where the sink's count of faults rose: a front of the bytes was written. `OutOfMemory`: nothing was
 /// written.
 pub fn print<S: Sink>(out: &mut S, bytes: &[u8]) -> Result<(), Halt>
-    ensures { (name : List ℕ) (files : FilesNow) → Step name files (S.sink out.old) files (S.sink out.new) (prints bytes.now) result }
+    ensures { (name : List ℕ) (files : FilesNow)
+        → Step name files (S.sink out.old) files (S.sink out.new) (prints bytes.now) result }
 {
     match out.write(bytes) {
         Ok(()) => Ok(()),

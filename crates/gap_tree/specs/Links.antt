@@ -58,7 +58,8 @@ abbrev pub parent_from : Option Up → Option ℕ
 parent_from None = None
 parent_from (Some up) = Some up.parent.0
 
--- what became of a node: it ends in its leaf where it has no first child, and else forks by the split that leads to that child
+-- what became of a node: it ends in its leaf where it has no first child, and else forks by the split that leads to
+-- that child
 abbrev pub fate_from : List Link → Option NodeId → Leaf → Fate
 fate_from links None leaf = ends leaf
 fate_from links (Some first) leaf = forks (split_above links first.0) first.0
@@ -135,7 +136,8 @@ with_leaf link leaf = record { up = link.up; first = link.first; leaf = leaf }
 
 -- a leaf on a side of a node's split
 abbrev pub child_link : NodeId → Split → Side → Leaf → Link
-child_link parent split side leaf = record { up = Some (record { parent = parent; split = split; side = side }); first = None; leaf = leaf }
+child_link parent split side leaf =
+    record { up = Some (record { parent = parent; split = split; side = side }); first = None; leaf = leaf }
 
 -- a number that may be there, as that of a node
 abbrev pub node_named : Option ℕ → Option NodeId

@@ -125,7 +125,8 @@ fn leaf_below<'a>(parent: NodeId, split: Split, side: Side, leaf: Leaf<'a>) -> L
 /// Gives a node its first child.
 fn put_first(links: &mut Vec<Link<'_>>, node: NodeId, first: NodeId)
     requires { node.0 < vec_len links.old }
-    ensures links { (link : Link) × (slice_get links.old.items node.0 ≡ Some link) × (links.new.items ≡ slice_set links.old.items node.0 (with_first link first)) }
+    ensures links { (link : Link) × (slice_get links.old.items node.0 ≡ Some link)
+        × (links.new.items ≡ slice_set links.old.items node.0 (with_first link first)) }
     ensures len { vec_len links.new ≡ vec_len links.old }
     ensures capacity { vec_capacity links.new ≡ vec_capacity links.old }
 {
@@ -147,7 +148,9 @@ pub fn split_links<'a>(
     requires space { vec_len links.old + 1 < vec_capacity links.old }
     requires number { vec_len links.old < 4294967295 }
     ensures result { result.0 ≡ vec_len links.old }
-    ensures links { (link : Link) × (slice_get links.old.items node.0 ≡ Some link) × (links.new.items ≡ slice_set links.old.items node.0 (with_first link result) ++ child_link node split First first.entry ∷ child_link node split Second second.entry ∷ []) }
+    ensures links { (link : Link) × (slice_get links.old.items node.0 ≡ Some link)
+        × (links.new.items ≡ slice_set links.old.items node.0 (with_first link result)
+        ++ child_link node split First first.entry ∷ child_link node split Second second.entry ∷ []) }
     ensures capacity { vec_capacity links.new ≡ vec_capacity links.old }
 {
     let first_child = NodeId(links.len() as u32);
@@ -160,7 +163,8 @@ pub fn split_links<'a>(
 /// Puts another leaf at a node.
 pub fn put_leaf<'a>(links: &mut Vec<Link<'a>>, node: NodeId, leaf: Leaf<'a>)
     requires { node.0 < vec_len links.old }
-    ensures links { (link : Link) × (slice_get links.old.items node.0 ≡ Some link) × (links.new.items ≡ slice_set links.old.items node.0 (with_leaf link leaf.entry)) }
+    ensures links { (link : Link) × (slice_get links.old.items node.0 ≡ Some link)
+        × (links.new.items ≡ slice_set links.old.items node.0 (with_leaf link leaf.entry)) }
     ensures capacity { vec_capacity links.new ≡ vec_capacity links.old }
 {
     let place = node.0 as usize;

@@ -147,7 +147,8 @@ impl<'a> Tree<'a> {
         requires space { length self.old.nodes + 2 ≤ self.old.room }
         ensures first { result.0.0 ≡ length self.old.nodes }
         ensures second { result.1.0 ≡ length self.old.nodes + 1 }
-        ensures value { self.new ≡ record self.old { nodes = split_nodes self.old.nodes node.0 split first.entry second.entry } }
+        ensures value { self.new ≡ record self.old
+            { nodes = split_nodes self.old.nodes node.0 split first.entry second.entry } }
         ensures tree { IsTree self.new.nodes }
     {
         let first_child = split_links(&mut self.links, node, split, first, second);

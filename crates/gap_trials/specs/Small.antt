@@ -48,7 +48,8 @@ charge lots alpha x = alpha *ℤ (pos (sum x) -ℤ pos lots)
 abbrev pub small_price : ℕ → ℕ → Leaf → List ℕ → ℤ
 small_price seed lots Count x = pos 0
 small_price seed lots (Void alpha tau third) x = charge lots alpha x
-small_price seed lots (Tangent y alpha tau third) x = pos 64 *ℤ (cost_of seed x -ℤ pos (distance y.now x)) +ℤ charge lots alpha x
+small_price seed lots (Tangent y alpha tau third) x =
+    pos 64 *ℤ (cost_of seed x -ℤ pos (distance y.now x)) +ℤ charge lots alpha x
 
 -- a multiplier in range is at most 1000 in size
 abbrev pub small_in_range : Leaf → Bool

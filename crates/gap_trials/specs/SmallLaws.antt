@@ -26,21 +26,33 @@ meets_facts lots x e =
     let a = and_parts (in_part small_whole x) (leb 1 (held_count x) && (leb (held_count x) 2 && eqb (sum x) lots)) e in
     let b = and_parts (leb 1 (held_count x)) (leb (held_count x) 2 && eqb (sum x) lots) a.1 in
     let d = and_parts (leb (held_count x) 2) (eqb (sum x) lots) b.1 in
-    record { pick = record { inside = a.0; few = leb-true 1 (held_count x) b.0; many = leb-true (held_count x) 2 d.0 }; total = eqb-true (sum x) lots d.1 }
+    record {
+      pick = record {
+        inside = a.0;
+        few = leb-true 1 (held_count x) b.0;
+        many = leb-true (held_count x) 2 d.0;
+      };
+      total = eqb-true (sum x) lots d.1;
+    }
 
 pub meets_from : (lots : ℕ) (x : List ℕ) → IsPick small_whole 1 2 x → sum x ≡ lots → small_meets lots x ≡ true
-meets_from lots x p e = and_from (in_part small_whole x) _ p.inside (and_from (leb 1 (held_count x)) _ (le-leb 1 (held_count x) p.few) (and_from (leb (held_count x) 2) _ (le-leb (held_count x) 2 p.many) (eq_test (sum x) lots e))) where
-  eq_test : (a b : ℕ) → a ≡ b → eqb a b ≡ true
-  eq_test a b q = grind (arith, nat_tests)
+meets_from lots x p e =
+    and_from (in_part small_whole x) _ p.inside
+    (and_from (leb 1 (held_count x)) _ (le-leb 1 (held_count x) p.few)
+    (and_from (leb (held_count x) 2) _ (le-leb (held_count x) 2 p.many) (eq_test (sum x) lots e))) where
+      eq_test : (a b : ℕ) → a ≡ b → eqb a b ≡ true
+      eq_test a b q = grind (arith, nat_tests)
 
 -- ---- costs and charges
 below_97 : (n : ℕ) → n % 97 < 97
 below_97 n = omega arith
 
 pub cost_small : (seed : ℕ) (x : List ℕ) → unsigned_abs (cost_of seed x) ≤ 48
-cost_small seed x = small_by (seed * (place_of x + 1) * (place_of x + 1) % 97) (below_97 (seed * (place_of x + 1) * (place_of x + 1))) where
-  small_by : (r : ℕ) → r < 97 → unsigned_abs (pos r -ℤ pos 48) ≤ 48
-  small_by r h = omega (arith, ints)
+cost_small seed x =
+    small_by (seed * (place_of x + 1) * (place_of x + 1) % 97) (below_97 (seed * (place_of x + 1) * (place_of x + 1)))
+  where
+    small_by : (r : ℕ) → r < 97 → unsigned_abs (pos r -ℤ pos 48) ≤ 48
+    small_by r h = omega (arith, ints)
 
 pub no_charge : (lots : ℕ) (alpha : ℤ) (x : List ℕ) → sum x ≡ lots → charge lots alpha x ≡ pos 0
 no_charge lots alpha x e = let z = level (sum x) lots e in rw z (none_by alpha) where
@@ -57,24 +69,32 @@ at_the_point x i = rw (entries_of_lots x i) (none_by (slice_index_or x i 0)) whe
   none_by v = omega (arith, ints)
 
 -- ---- the laws of prices
-small_below : (seed lots : ℕ) (leaf : Leaf) (x : List ℕ) → is_tangent leaf ≡ true → small_meets lots x ≡ true → small_price seed lots leaf x ≤ℤ (pos 64 *ℤ cost_of seed x)
+small_below : (seed lots : ℕ) (leaf : Leaf) (x : List ℕ) → is_tangent leaf ≡ true → small_meets lots x ≡ true
+    → small_price seed lots leaf x ≤ℤ (pos 64 *ℤ cost_of seed x)
 small_below seed lots Count x e m = cc
 small_below seed lots (Void alpha tau third) x e m = cc
-small_below seed lots (Tangent y alpha tau third) x e m = below_by (cost_of seed x) (distance y.now x) (charge lots alpha x) (no_charge lots alpha x (meets_facts lots x m).total) where
-  below_by : (c : ℤ) (d : ℕ) (b : ℤ) → b ≡ pos 0 → (pos 64 *ℤ (c -ℤ pos d) +ℤ b) ≤ℤ (pos 64 *ℤ c)
-  below_by c d b z = omega (arith, ints)
+small_below seed lots (Tangent y alpha tau third) x e m =
+    below_by (cost_of seed x) (distance y.now x) (charge lots alpha x)
+    (no_charge lots alpha x (meets_facts lots x m).total) where
+      below_by : (c : ℤ) (d : ℕ) (b : ℤ) → b ≡ pos 0 → (pos 64 *ℤ (c -ℤ pos d) +ℤ b) ≤ℤ (pos 64 *ℤ c)
+      below_by c d b z = omega (arith, ints)
 
-small_paid : (seed lots : ℕ) (leaf : Leaf) (x : List ℕ) → is_void leaf ≡ true → small_meets lots x ≡ true → small_price seed lots leaf x ≤ℤ pos 0
+small_paid : (seed lots : ℕ) (leaf : Leaf) (x : List ℕ) → is_void leaf ≡ true → small_meets lots x ≡ true
+    → small_price seed lots leaf x ≤ℤ pos 0
 small_paid seed lots Count x e m = cc
 small_paid seed lots (Tangent y alpha tau third) x e m = cc
-small_paid seed lots (Void alpha tau third) x e m = rw (no_charge lots alpha x (meets_facts lots x m).total) (omega (arith, ints))
+small_paid seed lots (Void alpha tau third) x e m =
+    rw (no_charge lots alpha x (meets_facts lots x m).total) (omega (arith, ints))
 
-small_exact : (seed lots : ℕ) (leaf : Leaf) (x : List ℕ) → small_meets lots x ≡ true → IsTangentAt x leaf → IsExactAt (small_prices seed lots) x leaf
+small_exact : (seed lots : ℕ) (leaf : Leaf) (x : List ℕ) → small_meets lots x ≡ true → IsTangentAt x leaf
+    → IsExactAt (small_prices seed lots) x leaf
 small_exact seed lots Count x m t = absurd t
 small_exact seed lots (Void alpha tau third) x m t = absurd t
 small_exact seed lots (Tangent y alpha tau third) x m t = record {
   said = record { in_range = rw t.1 refl; says = refl };
-  exact = exact_by (cost_of seed x) (distance y.now x) (charge lots alpha x) there (no_charge lots alpha x (meets_facts lots x m).total);
+  exact =
+      exact_by (cost_of seed x) (distance y.now x) (charge lots alpha x) there
+      (no_charge lots alpha x (meets_facts lots x m).total);
 } where
   there : distance y.now x ≡ 0
   there = let a = at_the_point x 0 in let b = at_the_point x 1 in let d = at_the_point x 2 in rw t.0 (omega arith)
@@ -82,7 +102,10 @@ small_exact seed lots (Tangent y alpha tau third) x m t = record {
   exact_by : (c : ℤ) (d : ℕ) (b : ℤ) → d ≡ 0 → b ≡ pos 0 → pos 64 *ℤ (c -ℤ pos d) +ℤ b ≡ pos 64 *ℤ c
   exact_by c d b e z = omega (arith, ints)
 
-small_charged : (seed lots : ℕ) (x : List ℕ) → IsPick small_whole 1 2 x → small_meets lots x ≡ false → (third : ℤ) × (Charges (small_prices seed lots) x (Void (pos 1) (pos 0) third) ⊎ Charges (small_prices seed lots) x (Void (negsuc 0) (pos 0) third) ⊎ Charges (small_prices seed lots) x (Void (pos 0) (pos 1) third))
+small_charged : (seed lots : ℕ) (x : List ℕ) → IsPick small_whole 1 2 x → small_meets lots x ≡ false
+    → (third : ℤ) × (Charges (small_prices seed lots) x (Void (pos 1) (pos 0) third)
+    ⊎ Charges (small_prices seed lots) x (Void (negsuc 0) (pos 0) third)
+    ⊎ Charges (small_prices seed lots) x (Void (pos 0) (pos 1) third))
 small_charged seed lots x p e = (pos 0, by_sum (order (sum x) lots)) where
   order : (a b : ℕ) → (b < a) ⊎ (a < b) ⊎ (a ≡ b)
   order a b = from_cases (cases_lt b a) (cases_lt a b) where
@@ -100,9 +123,13 @@ small_charged seed lots x p e = (pos 0, by_sum (order (sum x) lots)) where
   under : (a b : ℕ) → a < b → pos 0 <ℤ (negsuc 0 *ℤ (pos a -ℤ pos b))
   under a b h = omega (arith, ints)
 
-  by_sum : (lots < sum x) ⊎ (sum x < lots) ⊎ (sum x ≡ lots) → Charges (small_prices seed lots) x (Void (pos 1) (pos 0) (pos 0)) ⊎ Charges (small_prices seed lots) x (Void (negsuc 0) (pos 0) (pos 0)) ⊎ Charges (small_prices seed lots) x (Void (pos 0) (pos 1) (pos 0))
+  by_sum : (lots < sum x) ⊎ (sum x < lots) ⊎ (sum x ≡ lots)
+      → Charges (small_prices seed lots) x (Void (pos 1) (pos 0) (pos 0))
+      ⊎ Charges (small_prices seed lots) x (Void (negsuc 0) (pos 0) (pos 0))
+      ⊎ Charges (small_prices seed lots) x (Void (pos 0) (pos 1) (pos 0))
   by_sum (inl h) = inl (record { said = record { in_range = refl; says = refl }; positive = above (sum x) lots h })
-  by_sum (inr (inl h)) = inr (inl (record { said = record { in_range = refl; says = refl }; positive = under (sum x) lots h }))
+  by_sum (inr (inl h)) =
+      inr (inl (record { said = record { in_range = refl; says = refl }; positive = under (sum x) lots h }))
   by_sum (inr (inr h)) = absurd (both (sym (meets_from lots x p h) ∙ e))
 
 pub small_priced : (seed lots : ℕ) → IsPriced (small_prices seed lots)

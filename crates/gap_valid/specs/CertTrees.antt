@@ -23,7 +23,8 @@ use Rattle.gap_cert.specs.Certificates.{CertLeaf, count, void, tangent, CertTree
 abbrev pub IsFormed : List Cell → CertTree → Type 0
 IsFormed part (tip leaf) = Unit {0}
 IsFormed part (fork split first second) =
-    IsTrue (lawful_split part split) × IsFormed (child_cells part split First) first × IsFormed (child_cells part split Second) second
+    IsTrue (lawful_split part split) × IsFormed (child_cells part split First) first
+    × IsFormed (child_cells part split Second) second
 
 -- how many splits a tree has
 abbrev pub cert_splits : CertTree → ℕ
@@ -38,7 +39,8 @@ pub record PlacedLeaf : Type 0 where
 -- the leaves of a tree at a part, with their parts, the first side's before the second's
 abbrev pub cert_leaves : List Cell → CertTree → List PlacedLeaf
 cert_leaves part (tip leaf) = record { part = part; leaf = leaf } ∷ []
-cert_leaves part (fork split first second) = cert_leaves (child_cells part split First) first ++ cert_leaves (child_cells part split Second) second
+cert_leaves part (fork split first second) =
+    cert_leaves (child_cells part split First) first ++ cert_leaves (child_cells part split Second) second
 
 -- what a leaf shows of each list of a part that meets the limits
 unfoldable pub leaf_shows : Setting → List Cell → CertLeaf → Shown
@@ -82,7 +84,8 @@ overall_shows s root (Some w) = leaf_shows s root (tangent w)
 
 -- the shown bound: the greater of what the witness for the whole root shows and the least that a leaf shows on its part
 unfoldable pub shown_bound : Setting → List Cell → Option Witness → CertTree → Shown
-shown_bound s root overall tree = greater_shown (overall_shows s root overall) (least_shown (map (placed_shows s) (cert_leaves root tree)))
+shown_bound s root overall tree =
+    greater_shown (overall_shows s root overall) (least_shown (map (placed_shows s) (cert_leaves root tree)))
 
 -- the numbers of a witness are in their ranges
 pub record IsWitness (I : InstanceValue) (w : Witness) : Type 0 where
@@ -112,4 +115,5 @@ IsSameLeaf s (void a t) (Tangent y alpha tau third) = ⊥
 IsSameLeaf s (tangent w) Count = ⊥
 IsSameLeaf s (tangent w) (Void alpha tau third) = ⊥
 IsSameLeaf s (tangent w) (Tangent y alpha tau third) =
-    ((i : ℕ) → i < s.instance.market.assets → eighths_at y.now i ≡ lots_at w.y i) × (alpha ≡ w.alpha) × (tau ≡ w.tau) × (third ≡ pos 0)
+    ((i : ℕ) → i < s.instance.market.assets → eighths_at y.now i ≡ lots_at w.y i) × (alpha ≡ w.alpha) × (tau ≡ w.tau)
+    × (third ≡ pos 0)

@@ -53,8 +53,10 @@ pub record IsClosed (h : CertHead) (w : Weight) (tree : CertTree) (best : Best) 
   pub portfolio : Has h w best
   pub shown : Shows h w overall tree best.value
 
--- open: the portfolio meets the limits and has its objective; the bound is below it, and is shown; and the whole budget is spent
-pub record IsOpen (h : CertHead) (w : Weight) (tree : CertTree) (best : Best) (bound : ℤ) (overall : Option Witness) : Type 0 where
+-- open: the portfolio meets the limits and has its objective; the bound is below it, and is shown; and the whole
+-- budget is spent
+pub record IsOpen (h : CertHead) (w : Weight) (tree : CertTree) (best : Best) (bound : ℤ)
+    (overall : Option Witness) : Type 0 where
   pub said : AreSaid (instance_in h) bound overall
   pub portfolio : Has h w best
   pub below : bound <ℤ best.value

@@ -29,13 +29,18 @@ ghost use Rattle.gap_valid.specs.Verdicts.{verdict_of};
 /// one has exactly as many splits as the budget.
 pub fn valid_certificates_bound()
     ensures told { (c : Certificate) → IsValid c → All (IsToldRight (instance_in c.head)) (verdict_of c).sections }
-    ensures closed { (c : Certificate) (s : CertSection) (best : Best) (overall : Option Witness) → IsValid c → Contains c.sections s → s.claim ≡ closed best overall → shown_bound (setting_in c.head s.weight) (root_in c.head) overall s.tree ≡ AtLeast best.value }
-    ensures spent { (c : Certificate) (s : CertSection) → IsValid c → Contains c.sections s → is_open s.claim ≡ true → cert_splits s.tree ≡ c.head.nodes }
+    ensures closed { (c : Certificate) (s : CertSection) (best : Best) (overall : Option Witness) → IsValid c
+        → Contains c.sections s → s.claim ≡ closed best overall
+        → shown_bound (setting_in c.head s.weight) (root_in c.head) overall s.tree ≡ AtLeast best.value }
+    ensures spent { (c : Certificate) (s : CertSection) → IsValid c → Contains c.sections s → is_open s.claim ≡ true
+        → cert_splits s.tree ≡ c.head.nodes }
 {}
 
 /// Each list of a part is in the part of exactly one leaf of a tree that is well formed there.
 pub fn parts_are_covered()
-    ensures { (part : List Cell) (tree : CertTree) (x : List ℕ) → AreCells part → IsFormed part tree → sum_by (λ (placed : PlacedLeaf). indicator (in_part placed.part x)) (cert_leaves part tree) ≡ indicator (in_part part x) }
+    ensures { (part : List Cell) (tree : CertTree) (x : List ℕ) → AreCells part → IsFormed part tree
+        → sum_by (λ (placed : PlacedLeaf). indicator (in_part placed.part x)) (cert_leaves part tree)
+        ≡ indicator (in_part part x) }
 {}
 
 /// The least of what is shown is one of the things shown, and none of them is below it.
@@ -45,7 +50,8 @@ pub fn least_shown_is_least()
 
 /// A leaf of a certificate shows what the same leaf of the tangent bound does.
 pub fn leaves_show_as_bounds()
-    ensures { (s : Setting) (part : List Cell) (leaf : CertLeaf) (same : Leaf) → IsSameLeaf s leaf same → shows s part same ≡ leaf_shows s part leaf }
+    ensures { (s : Setting) (part : List Cell) (leaf : CertLeaf) (same : Leaf) → IsSameLeaf s leaf same
+        → shows s part same ≡ leaf_shows s part leaf }
 {}
 
 /// A head in its ranges has an instance and a shift. The pair i < j has the correlation that stands at its number among
@@ -53,8 +59,10 @@ pub fn leaves_show_as_bounds()
 pub fn heads_are_read()
     ensures instance { (h : CertHead) → IsHead h → IsInstance (instance_in h) }
     ensures shift { (h : CertHead) → IsHead h → IsShift (shift_in h) }
-    ensures pairs { (h : CertHead) (i j : ℕ) → i < j → j < h.n → rho_of (market_in h) i j ≡ at h.correlations (pair_number h.n i j) }
-    ensures turned { (h : CertHead) (i j : ℕ) → i < j → j < h.n → rho_of (market_in h) j i ≡ at h.correlations (pair_number h.n i j) }
+    ensures pairs { (h : CertHead) (i j : ℕ) → i < j → j < h.n
+        → rho_of (market_in h) i j ≡ at h.correlations (pair_number h.n i j) }
+    ensures turned { (h : CertHead) (i j : ℕ) → i < j → j < h.n
+        → rho_of (market_in h) j i ≡ at h.correlations (pair_number h.n i j) }
     ensures rows { (h : CertHead) (i k : ℕ) → i < h.n → k < suc i → r_of (shift_in h) i k ≡ at h.factor (row_number i k) }
 {}
 

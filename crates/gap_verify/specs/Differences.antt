@@ -46,7 +46,8 @@ same_said _ _ = false
 
 -- the difference of a field of which two things are said, if they differ
 unfoldable pub compared : Field → Said → Said → Option Difference
-compared f found wanted = if same_said found wanted then None else Some (record { field = f; found = found; wanted = wanted })
+compared f found wanted =
+    if same_said found wanted then None else Some (record { field = f; found = found; wanted = wanted })
 
 -- the difference of two sides at a field
 abbrev pub difference_at : Side → Side → Field → Option Difference

@@ -73,4 +73,6 @@ weight_fields k = field.Weight k ∷ []
 -- all fields of n assets and so many weights in their order: the single ones, those of each asset, each pair i < j by i
 -- and then j, how many weights there are, and each weight
 unfoldable pub fields_of : ℕ → ℕ → List Field
-fields_of n count = first_fields ++ (groups_below asset_fields n ++ (groups_below (row_fields n) n ++ (field.Weights ∷ groups_below weight_fields count)))
+fields_of n count =
+    first_fields ++ (groups_below asset_fields n
+    ++ (groups_below (row_fields n) n ++ (field.Weights ∷ groups_below weight_fields count)))

@@ -252,7 +252,8 @@ pub fn first_difference(
     market: &Market,
     job: &Job,
 ) -> Option<Difference>
-    requires { AreLimits market.now.assets job.now.lots job.now.held job.now.held_most job.now.least job.now.greatest job.now.present job.now.turnover }
+    requires { AreLimits market.now.assets job.now.lots job.now.held job.now.held_most job.now.least job.now.greatest
+        job.now.present job.now.turnover }
     ensures { result ≡ difference_of (side_of_certificate found.now nodes told.now) (side_of_job market.now job.now) }
 {
     let sides = Sides {

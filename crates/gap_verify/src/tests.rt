@@ -27,7 +27,8 @@ fn job(fewest: u16, most: u16, nodes: u32, weight: Weight) -> Job
     requires many { fewest ≤ 2 }
     requires least { 1 ≤ most }
     requires greatest { most ≤ 10 }
-    ensures { AreLimits 2 result.lots result.held result.held_most result.least result.greatest result.present result.turnover }
+    ensures { AreLimits 2 result.lots result.held result.held_most result.least result.greatest result.present
+        result.turnover }
 {
     let mut weights = Weights::new();
     weights.push(weight);
@@ -59,7 +60,8 @@ fn market(alloc: Global, rho: i32) -> Result<Market, OutOfMemory>
 /// and the weight 1/2, and another market and job.
 fn line(alloc: Global, rho: i32, job: &Job) -> Result<String, OutOfMemory>
     requires small { unsigned_abs rho ≤ 1000000 }
-    requires limits { AreLimits 2 job.now.lots job.now.held job.now.held_most job.now.least job.now.greatest job.now.present job.now.turnover }
+    requires limits { AreLimits 2 job.now.lots job.now.held job.now.held_most job.now.least job.now.greatest
+        job.now.present job.now.turnover }
 {
     let found = Instance::new(alloc, market(alloc, 5)?, &self::job(2, 10, 7, HALF))?;
     let told = [Told {

@@ -28,7 +28,8 @@ pub fn asset_of(split: Split) -> u16
 /// where there is none. It takes no memory, and a step for each level that it leaves.
 pub fn climb(part: &mut Part, levels: &mut Vec<Level>) -> bool
     requires { AreLevels (length part.old) (reverse levels.old.items) }
-    ensures next { parts_to_come (not result) part.new (reverse levels.new.items) ≡ pending part.old (reverse levels.old.items) }
+    ensures next { parts_to_come (not result) part.new (reverse levels.new.items)
+        ≡ pending part.old (reverse levels.old.items) }
     ensures kept { AreLevels (length part.new) (reverse levels.new.items) }
 {
     while let Some(level) = levels.pop() {

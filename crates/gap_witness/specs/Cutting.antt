@@ -19,5 +19,9 @@ cut_behind (Free l u) v = 0
 -- which assets are held, the widest cell that must be held is cut behind its whole lots; else the first of the free cells
 -- with the most eighths is the one to be held or not
 abbrev pub IsSplitFor : List Cell → ℕ → List ℕ → Split → Type 0
-IsSplitFor cells most y (Hold i) = (is_settled cells most ≡ false) × IsFirstGreatest (length cells) (λ k. is_free (slice_index_or cells k Out)) (lots_at y) i
-IsSplitFor cells most y (Cut i t) = (is_settled cells most ≡ true) × IsWidest cells i × (t ≡ cut_behind (slice_index_or cells i Out) (slice_index_or y i 0))
+IsSplitFor cells most y (Hold i) =
+    (is_settled cells most ≡ false)
+    × IsFirstGreatest (length cells) (λ k. is_free (slice_index_or cells k Out)) (lots_at y) i
+IsSplitFor cells most y (Cut i t) =
+    (is_settled cells most ≡ true) × IsWidest cells i
+    × (t ≡ cut_behind (slice_index_or cells i Out) (slice_index_or y i 0))

@@ -11,7 +11,12 @@ abbrev pub setting_in : Frame → Setting
 setting_in f = setting_of f.mv.now
 
 abbrev pub choice_in : Frame → Choice
-choice_in f = record { cells = f.part.now; fewest = (setting_of f.mv.now).instance.held; most = (setting_of f.mv.now).instance.held_most }
+choice_in f =
+    record {
+      cells = f.part.now;
+      fewest = (setting_of f.mv.now).instance.held;
+      most = (setting_of f.mv.now).instance.held_most;
+    }
 
 -- what the range of an asset takes off its gradient: p D_i times the sum of its ends
 abbrev pub level : Setting → Choice → ℕ → ℤ

@@ -85,7 +85,9 @@ giver s c y = first_greatest (length c.cells) (λ i. ltb (lower_end c i) (slice_
 
 -- the asset that takes: another, the first with the least gradient among those below their upper ends
 abbrev pub taker : Setting → Choice → List ℕ → ℕ → Option ℕ
-taker s c y i = first_greatest (length c.cells) (λ j. not (eqb j i) && ltb (slice_index_or y j 0) (upper_end c j)) (λ j. neg_ℤ (gradient s c y j))
+taker s c y i =
+    first_greatest (length c.cells) (λ j. not (eqb j i) && ltb (slice_index_or y j 0) (upper_end c j))
+    (λ j. neg_ℤ (gradient s c y j))
 
 -- half of what an eighth that goes from one asset to another takes off the gap of their gradients: p (A_ii + A_jj - 2 A_ij)
 abbrev pub curvature : Setting → ℕ → ℕ → ℤ
@@ -95,12 +97,14 @@ curvature s i j = pos s.p *ℤ ((shifted_cov s i i +ℤ shifted_cov s j j) -ℤ 
 abbrev pub room_between : Choice → List ℕ → ℕ → ℕ → ℕ
 room_between c y i j = min (slice_index_or y i 0 - lower_end c i) (upper_end c j - slice_index_or y j 0)
 
--- a step of at least 1 and at most the room: the gap of the gradients over twice the curvature, rounded down, or all the room
+-- a step of at least 1 and at most the room: the gap of the gradients over twice the curvature, rounded down, or all
+-- the room
 abbrev pub step_of : ℕ → ℕ → ℕ → ℕ
 step_of room gap curve = cond (eqb curve 0) room (max 1 (min room (gap / (2 * curve))))
 
 abbrev pub step_between : Setting → Choice → List ℕ → ℕ → ℕ → ℕ
-step_between s c y i j = step_of (room_between c y i j) (unsigned_abs (gradient s c y i -ℤ gradient s c y j)) (unsigned_abs (curvature s i j))
+step_between s c y i j =
+    step_of (room_between c y i j) (unsigned_abs (gradient s c y i -ℤ gradient s c y j)) (unsigned_abs (curvature s i j))
 
 -- does a step from one asset to the other lower nothing?
 abbrev pub is_idle : Setting → Choice → List ℕ → ℕ → ℕ → Bool
@@ -113,7 +117,9 @@ shifted_by y s i j = slice_set (slice_set y i (slice_index_or y i 0 - s)) j (sli
 -- what a round makes of a point for the asset that gives and the one that takes; None where the rounds end
 abbrev pub exchange : Setting → Choice → List ℕ → ℕ → Option ℕ → Option (List ℕ)
 exchange s c y i None = None
-exchange s c y i (Some j) = cond (int_le (gradient s c y i) (gradient s c y j) || is_idle s c y i j) None (Some (shifted_by y (step_between s c y i j) i j))
+exchange s c y i (Some j) =
+    cond (int_le (gradient s c y i) (gradient s c y j) || is_idle s c y i j) None
+    (Some (shifted_by y (step_between s c y i j) i j))
 
 abbrev pub next_from : Setting → Choice → List ℕ → Option ℕ → Option (List ℕ)
 next_from s c y None = None

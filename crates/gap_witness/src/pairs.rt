@@ -14,7 +14,8 @@ use gap_tangent::Point;
 
 /// What the ranges of all assets take off their gradients. Costs O(N).
 pub(crate) fn levels_of(frame: &Frame<'_>) -> [i128; 256]
-    ensures value { (k : ℕ) → k < length frame.now.part.now → at result k ≡ level (setting_in frame.now) (choice_in frame.now) k }
+    ensures value { (k : ℕ) → k < length frame.now.part.now
+        → at result k ≡ level (setting_in frame.now) (choice_in frame.now) k }
     ensures small { (k : ℕ) → k < length frame.now.part.now → unsigned_abs (at result k) ≤ 16000000000000000000000000000 }
 {
     let mut levels = [0; 256];
@@ -28,8 +29,10 @@ pub(crate) fn levels_of(frame: &Frame<'_>) -> [i128; 256]
 fn slope_at(frame: &Frame<'_>, levels: &[i128; 256], point: &Point<'_>, i: u16) -> i128
     requires there { i < length frame.now.part.now }
     requires same { point.now.setting ≡ setting_in frame.now }
-    requires levels { (k : ℕ) → k < length frame.now.part.now → at levels.now k ≡ level (setting_in frame.now) (choice_in frame.now) k }
-    requires small { (k : ℕ) → k < length frame.now.part.now → unsigned_abs (at levels.now k) ≤ 16000000000000000000000000000 }
+    requires levels { (k : ℕ) → k < length frame.now.part.now
+        → at levels.now k ≡ level (setting_in frame.now) (choice_in frame.now) k }
+    requires small { (k : ℕ) → k < length frame.now.part.now
+        → unsigned_abs (at levels.now k) ≤ 16000000000000000000000000000 }
     ensures value { result ≡ gradient (setting_in frame.now) (choice_in frame.now) point.now.eighths i }
     ensures small { unsigned_abs result ≤ 5000000000000000000000000000000 }
 {
@@ -40,9 +43,12 @@ fn slope_at(frame: &Frame<'_>, levels: &[i128; 256], point: &Point<'_>, i: u16) 
 /// The gradients of all assets. Costs O(N).
 pub(crate) fn slopes_of(frame: &Frame<'_>, levels: &[i128; 256], point: &Point<'_>) -> [i128; 256]
     requires same { point.now.setting ≡ setting_in frame.now }
-    requires levels { (k : ℕ) → k < length frame.now.part.now → at levels.now k ≡ level (setting_in frame.now) (choice_in frame.now) k }
-    requires small { (k : ℕ) → k < length frame.now.part.now → unsigned_abs (at levels.now k) ≤ 16000000000000000000000000000 }
-    ensures value { (k : ℕ) → k < length frame.now.part.now → at result k ≡ gradient (setting_in frame.now) (choice_in frame.now) point.now.eighths k }
+    requires levels { (k : ℕ) → k < length frame.now.part.now
+        → at levels.now k ≡ level (setting_in frame.now) (choice_in frame.now) k }
+    requires small { (k : ℕ) → k < length frame.now.part.now
+        → unsigned_abs (at levels.now k) ≤ 16000000000000000000000000000 }
+    ensures value { (k : ℕ) → k < length frame.now.part.now
+        → at result k ≡ gradient (setting_in frame.now) (choice_in frame.now) point.now.eighths k }
     ensures small { (k : ℕ) → k < length frame.now.part.now → unsigned_abs (at result k) ≤ 5000000000000000000000000000000 }
 {
     let mut slopes = [0; 256];
@@ -115,7 +121,8 @@ fn may_take(frame: &Frame<'_>, y: &Eighths, i: u16, j: u16) -> bool
 /// The asset that gives: the first with the greatest slope of those above their lower ends.
 pub(crate) fn giver_of(frame: &Frame<'_>, y: &Eighths, slopes: &[i128; 256]) -> Option<u16>
     requires same { length y.now ≡ length frame.now.part.now }
-    ensures { result ≡ first_greatest (length frame.now.part.now) (λ i. ltb (lower_end (choice_in frame.now) i) (slice_index_or y.now i 0)) (at slopes.now) }
+    ensures { result ≡ first_greatest (length frame.now.part.now)
+        (λ i. ltb (lower_end (choice_in frame.now) i) (slice_index_or y.now i 0)) (at slopes.now) }
 {
     let mut found = None;
     for i in 0..frame.part.len() {
@@ -127,7 +134,9 @@ pub(crate) fn giver_of(frame: &Frame<'_>, y: &Eighths, slopes: &[i128; 256]) -> 
 /// The asset that takes: another, the first with the least slope of those below their upper ends.
 pub(crate) fn taker_of(frame: &Frame<'_>, y: &Eighths, slopes: &[i128; 256], i: u16) -> Option<u16>
     requires same { length y.now ≡ length frame.now.part.now }
-    ensures { result ≡ first_greatest (length frame.now.part.now) (λ j. not (eqb j i) && ltb (slice_index_or y.now j 0) (upper_end (choice_in frame.now) j)) (λ j. neg_ℤ (at slopes.now j)) }
+    ensures { result ≡ first_greatest (length frame.now.part.now)
+        (λ j. not (eqb j i) && ltb (slice_index_or y.now j 0) (upper_end (choice_in frame.now) j))
+        (λ j. neg_ℤ (at slopes.now j)) }
 {
     let mut found = None;
     for j in 0..frame.part.len() {

@@ -50,10 +50,14 @@ fn frame_of<'m>(mv: &'m MeanVariance<'m>, part: &'m Part) -> Frame<'m>
 /// The tangent point of a part from a hint, with its gradients kept. `tangent_point` says what it is. A round costs O(N),
 /// and the first point O(N) for each asset with eighths.
 pub fn kept_tangent_point<'m>(mv: &'m MeanVariance<'m>, part: &'m Part, hint: &Eighths) -> Point<'m>
-    requires within { IsWithin part.now (root_cells (setting_of mv.now).instance.least (setting_of mv.now).instance.greatest) }
+    requires within { IsWithin part.now
+        (root_cells (setting_of mv.now).instance.least (setting_of mv.now).instance.greatest) }
     requires has { HasTangentPoint (setting_of mv.now) part.now }
     requires numbers { length hint.now ≡ (setting_of mv.now).instance.market.assets }
-    ensures { result ≡ record { setting = setting_of mv.now; eighths = point (setting_of mv.now) (choice_of (setting_of mv.now) part.now) hint.now } }
+    ensures { result ≡ record {
+      setting = setting_of mv.now;
+      eighths = point (setting_of mv.now) (choice_of (setting_of mv.now) part.now) hint.now;
+    } }
 {
     let _assets = mv.instance().n();
     let _cells = part.len();
@@ -66,7 +70,8 @@ pub fn kept_tangent_point<'m>(mv: &'m MeanVariance<'m>, part: &'m Part, hint: &E
 /// most 8N rounds, each of which moves eighths from the asset where they cost most to the one where they cost least. It is
 /// in range. Costs O(N) a round, and O(N) for each asset with eighths; it takes no memory.
 pub fn tangent_point(mv: &MeanVariance<'_>, part: &Part, hint: &Eighths) -> Eighths
-    requires within { IsWithin part.now (root_cells (setting_of mv.now).instance.least (setting_of mv.now).instance.greatest) }
+    requires within { IsWithin part.now
+        (root_cells (setting_of mv.now).instance.least (setting_of mv.now).instance.greatest) }
     requires has { HasTangentPoint (setting_of mv.now) part.now }
     requires numbers { length hint.now ≡ (setting_of mv.now).instance.market.assets }
     ensures value { result ≡ point (setting_of mv.now) (choice_of (setting_of mv.now) part.now) hint.now }

@@ -17,11 +17,14 @@ fn exchanged(frame: &Frame<'_>, y: &Eighths, slopes: &[i128; 256], i: u16, j: u1
     requires giver { i < length frame.now.part.now }
     requires taker { j < length frame.now.part.now }
     requires same { length y.now ≡ length frame.now.part.now }
-    requires value { (k : ℕ) → k < length frame.now.part.now → at slopes.now k ≡ gradient (setting_in frame.now) (choice_in frame.now) y.now k }
-    requires small { (k : ℕ) → k < length frame.now.part.now → unsigned_abs (at slopes.now k) ≤ 5000000000000000000000000000000 }
+    requires value { (k : ℕ) → k < length frame.now.part.now
+        → at slopes.now k ≡ gradient (setting_in frame.now) (choice_in frame.now) y.now k }
+    requires small { (k : ℕ) → k < length frame.now.part.now
+        → unsigned_abs (at slopes.now k) ≤ 5000000000000000000000000000000 }
     requires gives { lower_end (choice_in frame.now) i < slice_index_or y.now i 0 }
     requires takes { slice_index_or y.now j 0 < upper_end (choice_in frame.now) j }
-    ensures value { option_map (λ t. shifted_by y.now t i j) result ≡ exchange (setting_in frame.now) (choice_in frame.now) y.now i (Some j) }
+    ensures value { option_map (λ t. shifted_by y.now t i j) result
+        ≡ exchange (setting_in frame.now) (choice_in frame.now) y.now i (Some j) }
     ensures enough { IfSome result (λ t. t ≤ slice_index_or y.now i 0) }
 {
     let _assets = frame.part.len();
@@ -50,11 +53,14 @@ fn move_between(
     requires taker { j < length frame.now.part.now }
     requires apart { i ≢ j }
     requires same { length y.now ≡ length frame.now.part.now }
-    requires value { (k : ℕ) → k < length frame.now.part.now → at slopes.now k ≡ gradient (setting_in frame.now) (choice_in frame.now) y.now k }
-    requires small { (k : ℕ) → k < length frame.now.part.now → unsigned_abs (at slopes.now k) ≤ 5000000000000000000000000000000 }
+    requires value { (k : ℕ) → k < length frame.now.part.now
+        → at slopes.now k ≡ gradient (setting_in frame.now) (choice_in frame.now) y.now k }
+    requires small { (k : ℕ) → k < length frame.now.part.now
+        → unsigned_abs (at slopes.now k) ≤ 5000000000000000000000000000000 }
     requires gives { lower_end (choice_in frame.now) i < slice_index_or y.now i 0 }
     requires takes { slice_index_or y.now j 0 < upper_end (choice_in frame.now) j }
-    ensures value { option_map (moved_by y.now) result ≡ exchange (setting_in frame.now) (choice_in frame.now) y.now i (Some j) }
+    ensures value { option_map (moved_by y.now) result
+        ≡ exchange (setting_in frame.now) (choice_in frame.now) y.now i (Some j) }
     ensures lawful { IfSome result (CanMove (length frame.now.part.now) y.now) }
 {
     match exchanged(frame, y, slopes, i, j) {
@@ -71,10 +77,13 @@ fn move_between(
 fn move_from(frame: &Frame<'_>, y: &Eighths, slopes: &[i128; 256], i: u16) -> Option<Move>
     requires giver { i < length frame.now.part.now }
     requires same { length y.now ≡ length frame.now.part.now }
-    requires value { (k : ℕ) → k < length frame.now.part.now → at slopes.now k ≡ gradient (setting_in frame.now) (choice_in frame.now) y.now k }
-    requires small { (k : ℕ) → k < length frame.now.part.now → unsigned_abs (at slopes.now k) ≤ 5000000000000000000000000000000 }
+    requires value { (k : ℕ) → k < length frame.now.part.now
+        → at slopes.now k ≡ gradient (setting_in frame.now) (choice_in frame.now) y.now k }
+    requires small { (k : ℕ) → k < length frame.now.part.now
+        → unsigned_abs (at slopes.now k) ≤ 5000000000000000000000000000000 }
     requires gives { lower_end (choice_in frame.now) i < slice_index_or y.now i 0 }
-    ensures value { option_map (moved_by y.now) result ≡ next_from (setting_in frame.now) (choice_in frame.now) y.now (Some i) }
+    ensures value { option_map (moved_by y.now) result
+        ≡ next_from (setting_in frame.now) (choice_in frame.now) y.now (Some i) }
     ensures lawful { IfSome result (CanMove (length frame.now.part.now) y.now) }
 {
     match taker_of(frame, y, slopes, i) {
@@ -86,8 +95,10 @@ fn move_from(frame: &Frame<'_>, y: &Eighths, slopes: &[i128; 256], i: u16) -> Op
 /// The move of a round by the gradients; None where the rounds end.
 fn chosen(frame: &Frame<'_>, y: &Eighths, slopes: &[i128; 256]) -> Option<Move>
     requires same { length y.now ≡ length frame.now.part.now }
-    requires value { (k : ℕ) → k < length frame.now.part.now → at slopes.now k ≡ gradient (setting_in frame.now) (choice_in frame.now) y.now k }
-    requires small { (k : ℕ) → k < length frame.now.part.now → unsigned_abs (at slopes.now k) ≤ 5000000000000000000000000000000 }
+    requires value { (k : ℕ) → k < length frame.now.part.now
+        → at slopes.now k ≡ gradient (setting_in frame.now) (choice_in frame.now) y.now k }
+    requires small { (k : ℕ) → k < length frame.now.part.now
+        → unsigned_abs (at slopes.now k) ≤ 5000000000000000000000000000000 }
     ensures value { option_map (moved_by y.now) result ≡ next (setting_in frame.now) (choice_in frame.now) y.now }
     ensures lawful { IfSome result (CanMove (length frame.now.part.now) y.now) }
 {
@@ -100,9 +111,12 @@ fn chosen(frame: &Frame<'_>, y: &Eighths, slopes: &[i128; 256]) -> Option<Move>
 /// The move of a round from a point; None where the rounds end. Costs O(N).
 fn next_move(frame: &Frame<'_>, levels: &[i128; 256], point: &Point<'_>) -> Option<Move>
     requires same { point.now.setting ≡ setting_in frame.now }
-    requires levels { (k : ℕ) → k < length frame.now.part.now → at levels.now k ≡ level (setting_in frame.now) (choice_in frame.now) k }
-    requires small { (k : ℕ) → k < length frame.now.part.now → unsigned_abs (at levels.now k) ≤ 16000000000000000000000000000 }
-    ensures value { option_map (moved_by point.now.eighths) result ≡ next (setting_in frame.now) (choice_in frame.now) point.now.eighths }
+    requires levels { (k : ℕ) → k < length frame.now.part.now
+        → at levels.now k ≡ level (setting_in frame.now) (choice_in frame.now) k }
+    requires small { (k : ℕ) → k < length frame.now.part.now
+        → unsigned_abs (at levels.now k) ≤ 16000000000000000000000000000 }
+    ensures value { option_map (moved_by point.now.eighths) result
+        ≡ next (setting_in frame.now) (choice_in frame.now) point.now.eighths }
     ensures lawful { IfSome result (CanMove (length frame.now.part.now) point.now.eighths) }
 {
     let slopes = slopes_of(frame, levels, point);
@@ -112,7 +126,11 @@ fn next_move(frame: &Frame<'_>, levels: &[i128; 256], point: &Point<'_>) -> Opti
 /// The point after at most 8N rounds from a first one.
 pub(crate) fn walked<'m>(frame: &Frame<'_>, first: Point<'m>) -> Point<'m>
     requires { first.setting ≡ setting_in frame.now }
-    ensures { result ≡ record { setting = setting_in frame.now; eighths = rounds (8 * length frame.now.part.now) (next (setting_in frame.now) (choice_in frame.now)) first.entry.eighths } }
+    ensures { result ≡ record {
+      setting = setting_in frame.now;
+      eighths = rounds (8 * length frame.now.part.now) (next (setting_in frame.now) (choice_in frame.now))
+          first.entry.eighths;
+    } }
 {
     let levels = levels_of(frame);
     let mut point = first;

@@ -92,7 +92,9 @@ fn widest(part: &Part) -> u16
 /// The free cell of which it is next to be settled whether it is held; None where that is settled of all assets.
 fn unsettled(part: &Part, most: u16, y: &Eighths) -> Option<u16>
     requires { length y.now ≡ length part.now }
-    ensures some { (i : ℕ) → result ≡ Some i → (is_settled part.now most ≡ false) × IsFirstGreatest (length part.now) (λ k. is_free (slice_index_or part.now k Out)) (lots_at y.now) i }
+    ensures some { (i : ℕ) → result ≡ Some i
+        → (is_settled part.now most ≡ false)
+        × IsFirstGreatest (length part.now) (λ k. is_free (slice_index_or part.now k Out)) (lots_at y.now) i }
     ensures none { result ≡ None → is_settled part.now most ≡ true }
 {
     if part.held_cells() == most {

@@ -21,7 +21,9 @@ counts_text first second = joined (codes " " ∷ decimal first ∷ codes " " ∷
 
 -- a row of the shift by its number, from 1: its diagonal entry and the sizes of the others
 unfoldable pub row_text : Row → List ℕ
-row_text row = joined (codes " " ∷ decimal (row.row + 1) ∷ codes " " ∷ signed_decimal row.diagonal ∷ codes " " ∷ signed_decimal row.others ∷ [])
+row_text row =
+    joined (codes " " ∷ decimal (row.row + 1) ∷ codes " " ∷ signed_decimal row.diagonal ∷ codes " "
+    ∷ signed_decimal row.others ∷ [])
 
 -- a limit of an asset by its number, from 1
 unfoldable pub asset_text : List ℕ → ℕ → List ℕ

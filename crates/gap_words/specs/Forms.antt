@@ -47,7 +47,8 @@ quick_of words = if nat_eq (length words) 7 && is_name (word_at words 1) then (d
   q ← number_in 1 100 (word_at words 5)
   p ← number_in 0 q (word_at words 4)
   nodes ← number_in 0 100000 (word_at words 6)
-  Some (record { held = held.0; held_most = held.1; lots = lots; weight = record { p = p; q = q }; nodes = nodes })) else None
+  Some (record { held = held.0; held_most = held.1; lots = lots; weight = record { p = p; q = q }; nodes = nodes }))
+    else None
 
 -- the values of `demo NUMBER N HELD LOTS NODES`, where the words behind the first are in form: there are five numbers in
 -- their ranges, of which NUMBER has at most 18 digits

@@ -18,7 +18,9 @@ joined (text ∷ texts) = text ++ joined texts
 -- the line of a port file at fault: the word of the kind, the place, and the two assets of a pair where it names one
 unfoldable pub port_text : List ℕ → ℕ → Option (ℕ × ℕ) → List ℕ
 port_text kind place None = joined (codes "port " ∷ kind ∷ codes " " ∷ decimal place ∷ codes "\n" ∷ [])
-port_text kind place (Some pair) = joined (codes "port " ∷ kind ∷ codes " " ∷ decimal place ∷ codes " " ∷ decimal pair.0 ∷ codes " " ∷ decimal pair.1 ∷ codes "\n" ∷ [])
+port_text kind place (Some pair) =
+    joined (codes "port " ∷ kind ∷ codes " " ∷ decimal place ∷ codes " " ∷ decimal pair.0 ∷ codes " " ∷ decimal pair.1
+    ∷ codes "\n" ∷ [])
 
 -- the word of a kind of fault of a port file
 abbrev pub kind_word : PortKind → List ℕ

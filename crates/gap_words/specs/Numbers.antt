@@ -27,5 +27,6 @@ range_in fewest most = option_and_then (λ b. option_map (λ a. (a, b)) (number_
 -- how many assets a word says are to be held, at least and at most: K, which is both, or K1-K2
 unfoldable pub held_in : List ℕ → Option (ℕ × ℕ)
 held_in word =
-    if nat_lt (position_or_len is_dash word) (length word) then range_in (before_first is_dash word) (after_first is_dash word)
+    if nat_lt (position_or_len is_dash word) (length word) then range_in (before_first is_dash word)
+    (after_first is_dash word)
     else option_map (λ k. (k, k)) (number_in 1 256 word)

@@ -38,7 +38,9 @@ fn put_limits(
     turnover: Option<u32>,
     nodes: u32,
 ) -> Result<(), OutOfMemory>
-    ensures { OnOk result (out.new.items ≡ out.old.items ++ (be 2 lots ++ be 2 held ++ be 2 held_most ++ turnover_bytes turnover ++ be 4 nodes)) }
+    ensures { OnOk result
+        (out.new.items ≡ out.old.items
+        ++ (be 2 lots ++ be 2 held ++ be 2 held_most ++ turnover_bytes turnover ++ be 4 nodes)) }
 {
     put_u16(out, lots)?;
     put_u16(out, held)?;
@@ -58,7 +60,8 @@ pub fn put_asset(
     greatest: u16,
     present: u16,
 ) -> Result<(), OutOfMemory>
-    ensures { OnOk result (out.new.items ≡ out.old.items ++ (signed_be 4 mean ++ be 4 dev ++ be 2 least ++ be 2 greatest ++ be 2 present)) }
+    ensures { OnOk result
+        (out.new.items ≡ out.old.items ++ (signed_be 4 mean ++ be 4 dev ++ be 2 least ++ be 2 greatest ++ be 2 present)) }
 {
     put_i32(out, mean)?;
     put_u32(out, dev)?;
@@ -238,7 +241,10 @@ fn number_of(outcome: &Outcome) -> u8
 
 /// What a section says before its tree.
 pub fn put_opening(out: &mut Vec<u8>, part: &SectionHead) -> Result<(), OutOfMemory>
-    ensures { OnOk result ((last : Option Witness) → out.new.items ≡ out.old.items ++ spelled Two last (opening_fields part.now.weight (claim_of part.now.outcome part.now.overall))) }
+    ensures { OnOk result
+        ((last : Option Witness)
+        → out.new.items ≡ out.old.items
+        ++ spelled Two last (opening_fields part.now.weight (claim_of part.now.outcome part.now.overall))) }
 {
     put_start(out, part.weight.p, part.weight.q, number_of(&part.outcome))?;
     put_claim(out, &part.outcome, &part.overall)?;

@@ -36,7 +36,9 @@ fn put_line(out: &mut Vec<u8>, inst: &Instance, i: u16) -> Result<(), OutOfMemor
 
 /// What is said of each asset.
 fn put_lines(out: &mut Vec<u8>, inst: &Instance) -> Result<(), OutOfMemory>
-    ensures { OnOk result (out.new.items ≡ out.old.items ++ lines_bytes (map (asset_line inst.now) (range_with_len 0 inst.now.market.assets))) }
+    ensures { OnOk result
+        (out.new.items ≡ out.old.items
+        ++ lines_bytes (map (asset_line inst.now) (range_with_len 0 inst.now.market.assets))) }
 {
     for i in 0..inst.n() {
         put_line(out, inst, i)?;
@@ -47,7 +49,9 @@ fn put_lines(out: &mut Vec<u8>, inst: &Instance) -> Result<(), OutOfMemory>
 /// The correlations of asset `i` with those behind it.
 fn put_pairs(out: &mut Vec<u8>, inst: &Instance, i: u16) -> Result<(), OutOfMemory>
     requires { i < inst.now.market.assets }
-    ensures { OnOk result (out.new.items ≡ out.old.items ++ numbers_bytes 4 (map (rho_of inst.now.market i) (range_with_len (suc i) (inst.now.market.assets - suc i)))) }
+    ensures { OnOk result
+        (out.new.items ≡ out.old.items
+        ++ numbers_bytes 4 (map (rho_of inst.now.market i) (range_with_len (suc i) (inst.now.market.assets - suc i)))) }
 {
     let n = inst.n();
     for j in i + 1..n {
@@ -58,7 +62,9 @@ fn put_pairs(out: &mut Vec<u8>, inst: &Instance, i: u16) -> Result<(), OutOfMemo
 
 /// The correlations of all pairs.
 fn put_correlations(out: &mut Vec<u8>, inst: &Instance) -> Result<(), OutOfMemory>
-    ensures { OnOk result (out.new.items ≡ out.old.items ++ numbers_bytes 4 (pairs_below inst.now.market.assets (rho_of inst.now.market) inst.now.market.assets)) }
+    ensures { OnOk result
+        (out.new.items ≡ out.old.items
+        ++ numbers_bytes 4 (pairs_below inst.now.market.assets (rho_of inst.now.market) inst.now.market.assets)) }
 {
     for i in 0..inst.n() {
         put_pairs(out, inst, i)?;
@@ -69,7 +75,8 @@ fn put_correlations(out: &mut Vec<u8>, inst: &Instance) -> Result<(), OutOfMemor
 /// Row `i` of the triangle.
 fn put_row(out: &mut Vec<u8>, shift: &Shift, i: u16) -> Result<(), OutOfMemory>
     requires { i < shift.now.assets }
-    ensures { OnOk result (out.new.items ≡ out.old.items ++ numbers_bytes 8 (map (r_of shift.now i) (range_with_len 0 (suc i)))) }
+    ensures { OnOk result
+        (out.new.items ≡ out.old.items ++ numbers_bytes 8 (map (r_of shift.now i) (range_with_len 0 (suc i)))) }
 {
     // there are at most 256 rows
     let _rows = shift.n();
@@ -108,7 +115,10 @@ pub fn put_head(
     sections: u8,
 ) -> Result<(), OutOfMemory>
     requires { shift.now.assets ≡ inst.now.market.assets }
-    ensures { OnOk result ((last : Option Witness) → out.new.items ≡ out.old.items ++ spelled Two last (head_fields (head_of inst.now shift.now nodes) ++ field.Sections sections ∷ [])) }
+    ensures { OnOk result
+        ((last : Option Witness)
+        → out.new.items ≡ out.old.items
+        ++ spelled Two last (head_fields (head_of inst.now shift.now nodes) ++ field.Sections sections ∷ [])) }
 {
     let first = Field::Head {
         n: inst.n(),

@@ -94,7 +94,8 @@ impl Writer {
     }
 
     #[tactic(auto, using(crate::proofs::Headed::head_last))]
-    /// Appends a whole head, which says an instance, a shift of its assets and a budget of splits, and the number of sections
+    /// Appends a whole head, which says an instance, a shift of its assets and a budget of splits, and the number of
+    /// sections
     /// behind it. It takes memory for the head, beside what the buffer takes.
     pub fn head(
         &mut self,
@@ -104,7 +105,9 @@ impl Writer {
         sections: u8,
     ) -> Result<(), OutOfMemory>
         requires { shift.now.assets ≡ inst.now.market.assets }
-        ensures ok { OnOk result (self.new ≡ put_all self.old (head_fields (head_of inst.now shift.now nodes) ++ field.Sections sections ∷ [])) }
+        ensures ok { OnOk result
+            (self.new ≡ put_all self.old
+            (head_fields (head_of inst.now shift.now nodes) ++ field.Sections sections ∷ [])) }
         ensures err { OnErr result (self.new ≡ self.old) }
     {
         self.item.clear();
@@ -116,7 +119,8 @@ impl Writer {
     #[tactic(auto, using(crate::proofs::Spelled::opening_last))]
     /// Appends what a section says before its tree. Whether its numbers are in their ranges isn't looked at.
     pub fn section(&mut self, part: &SectionHead) -> Result<(), OutOfMemory>
-        ensures ok { OnOk result (self.new ≡ put_all self.old (opening_fields part.now.weight (claim_of part.now.outcome part.now.overall))) }
+        ensures ok { OnOk result
+            (self.new ≡ put_all self.old (opening_fields part.now.weight (claim_of part.now.outcome part.now.overall))) }
         ensures err { OnErr result (self.new ≡ self.old) }
     {
         self.item.clear();

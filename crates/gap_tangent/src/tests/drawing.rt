@@ -58,7 +58,8 @@ fn job_of(seed: u32, n: u16, lots: u16, held: (u16, u16), turnover: Option<u32>)
     requires held_order { held.0 ≤ held.1 }
     requires held_most { held.1 ≤ n }
     requires turnover { ForSome turnover (λ t. t ≤ 3000000) }
-    ensures limits { AreLimits n result.lots result.held result.held_most result.least result.greatest result.present result.turnover }
+    ensures limits { AreLimits n result.lots result.held result.held_most result.least result.greatest result.present
+        result.turnover }
     ensures lots { result.lots ≡ lots }
     ensures turnover { result.turnover ≡ turnover }
 {
