@@ -107,7 +107,24 @@ fn better(kept: Priced, new: Priced) -> Priced
     if new.theta < kept.theta { kept } else { new }
 }
 
-/// The multipliers of a tangent that are kept: those given, or new ones where these are no worse.
+/// Where the turnover is limited: the multipliers that are given, or new ones where these are no worse.
+fn better_turned(tangent: &Tangent<'_>, part: &Part, alpha: i128, tau: i128) -> Priced
+    requires within { IsWithin part.now
+        (root_cells tangent.now.setting.instance.least tangent.now.setting.instance.greatest) }
+    requires counted { can_meet part.now tangent.now.setting.instance.held tangent.now.setting.instance.held_most ≡ true }
+    requires limited { IsSome tangent.now.setting.instance.turnover }
+    requires multipliers { AreMultipliers tangent.now.setting.instance.turnover alpha tau }
+    ensures best { AreBestAt tangent.now.setting part.now (lots_at tangent.now.eighths) result.alpha result.tau
+        result.theta }
+    ensures no_less { alpha_curve tangent.now.setting part.now (lots_at tangent.now.eighths) tau alpha ≤ℤ result.theta }
+{
+    let new = turned_multipliers(tangent, part, alpha, tau);
+    let theta = theta_of(tangent, part, alpha, tau);
+    better(Priced { alpha, tau, theta }, new)
+}
+
+/// The multipliers of a tangent that are kept: those given, or new ones where these are no worse. Where the turnover isn't
+/// limited new ones never are, so theta isn't asked at those given.
 pub(crate) fn kept_multipliers(
     mv: &MeanVariance<'_>,
     tangent: &Tangent<'_>,
@@ -124,9 +141,10 @@ pub(crate) fn kept_multipliers(
         result.theta }
     ensures no_less { alpha_curve tangent.now.setting part.now (lots_at tangent.now.eighths) tau alpha ≤ℤ result.theta }
 {
-    let new = new_multipliers(mv, tangent, part, alpha, tau);
-    let theta = theta_of(tangent, part, alpha, tau);
-    better(Priced { alpha, tau, theta }, new)
+    match mv.instance().turnover() {
+        Some(_) => better_turned(tangent, part, alpha, tau),
+        None => plain_multipliers(tangent, part, alpha),
+    }
 }
 
 /// The witness of the greatest theta of three: a hint as it is, given by its tangent and multipliers, its point with new
