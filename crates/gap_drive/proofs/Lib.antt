@@ -1,3 +1,2 @@
 pub mod DrivenLaws
 pub mod TurnLaws
-pub mod PlainLaws

@@ -7,6 +7,3 @@ mod rounds;
 
 pub use driving::drive;
 pub use guide::Guide;
-
-#[cfg(test)]
-mod tests;

@@ -7,39 +7,14 @@ ghost use Rattle.gap_tangent.specs.Seen.{setting_of};
 use super::*;
 use crate::placing::tangent_leaf;
 use bumpalo::Bump;
-use gap_base::{Eighths, Job, Lots, Market, OutOfMemory, Weight, Weights};
+use gap_base::{Eighths, Job, Market, OutOfMemory, Weight, Weights};
 use gap_instance::Instance;
 use gap_model::{Entry, Leaf, NodeBound};
 use gap_psd::{Shift, dominant};
+use gap_samples::{three, two_assets};
 use gap_tangent::MeanVariance;
 use std::alloc::Global;
 use std::test::Fail;
-
-/// Two assets that aren't correlated: ten lots in both.
-#[tactic(auto, using(gap_instance::proofs::LimitLaws::few_numbers))]
-fn two_assets(alloc: Global) -> Result<Instance, OutOfMemory>
-    ensures assets { IfOk result (λ inst. inst.market.assets ≡ 2) }
-    ensures lots { IfOk result (λ inst. inst.lots ≡ 10) }
-{
-    let mut market = Market::new(alloc, 2)?;
-    market.set_mean(0, 1_000);
-    market.set_mean(1, 2_000);
-    market.set_dev(0, 100_000);
-    market.set_dev(1, 200_000);
-    let job = Job {
-        lots: 10,
-        held: 2,
-        held_most: 2,
-        least: Lots::filled(2, 1),
-        greatest: Lots::filled(2, 10),
-        present: Lots::zeros(2),
-        turnover: None,
-        weights: Weights::new(),
-        nodes: 0,
-        workers: 1,
-    };
-    Instance::new(alloc, market, &job)
-}
 
 /// The root's best alpha at a point for a tau, where the count can be met.
 fn root_alpha(mv: &MeanVariance<'_>, y: &Eighths, tau: i128) -> Option<i128>
@@ -56,7 +31,7 @@ fn root_alpha(mv: &MeanVariance<'_>, y: &Eighths, tau: i128) -> Option<i128>
 
 #[test]
 fn best_alpha_of_two_assets(rt: HostRuntime) -> Result<(), Fail> {
-    let inst = two_assets(rt.alloc())?;
+    let inst = two_assets(rt.alloc(), 2)?;
     let shift = Shift::zero(rt.alloc(), 2)?;
     let row = dominant(&inst, &shift);
     assert!(rt; row.is_none());
@@ -66,17 +41,6 @@ fn best_alpha_of_two_assets(rt: HostRuntime) -> Result<(), Fail> {
     y.set(1, 17);
     assert_eq!(rt; root_alpha(&mv, &y, 0), Some(-9_440_000_000_000_000_000));
     Ok(())
-}
-
-/// The list of three numbers.
-fn three(a: u16, b: u16, c: u16) -> Lots
-    ensures { result ≡ a ∷ b ∷ c ∷ [] }
-{
-    let mut list = Lots::zeros(3);
-    list.set(0, a);
-    list.set(1, b);
-    list.set(2, c);
-    list
 }
 
 /// The point of three numbers.

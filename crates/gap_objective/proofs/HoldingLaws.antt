@@ -1,5 +1,5 @@
 -- Laws of what a holding keeps.
-use Rattle.std.proofs.Common.{◌≡◌, ℕ, zero, suc, ◌+◌, ◌-◌, ◌*◌, ◌<◌, ◌≤◌, List, [], ◌∷◌, length, replicate, slice_index_or, slice_set, ℤ, pos, ◌+ℤ◌, ◌-ℤ◌, ◌*ℤ◌, ◌⊎◌, inl, inr, refl, sym, ap, ◌∙◌, arith, length-set, get_or-set_same, get_or-set_other, unsigned_abs}
+use Rattle.std.proofs.Common.{◌≡◌, ℕ, ◌+◌, ◌-◌, ◌*◌, ◌<◌, ◌≤◌, List, length, replicate, slice_index_or, slice_set, ℤ, pos, ◌+ℤ◌, ◌-ℤ◌, ◌*ℤ◌, ◌⊎◌, inl, inr, sym, ap, ◌∙◌, arith, length-set, get_or-set_same, get_or-set_other, unsigned_abs}
 use Rattle.std.proofs.Math.IntN.{*ℤ-zero}
 use Rattle.std.proofs.lemmas.Bool.{cases_eq, cases_lt}
 use Rattle.std.proofs.lemmas.Int.{ints}
@@ -15,6 +15,7 @@ use Rattle.gap_instance.specs.Instances.{InstanceValue, IsInstance, AreBetween}
 use Rattle.gap_instance.specs.Objective.{cov_of, risk_of, return_of, objective}
 use Rattle.gap_instance.proofs.ObjectiveLaws.{cov_of-symmetric}
 use Rattle.gap_instance.proofs.LimitLaws.{AreBetween-replicate}
+use Rattle.gap_instance.proofs.OrderLaws.{same_list}
 use Rattle.gap_objective.specs.Holdings.{HoldingValue, AreSlopes, IsKept, IsFront}
 use Rattle.gap_objective.specs.Slopes.{row_of, slope_of, IsChanged, AreShiftedBelow}
 use Rattle.gap_objective.proofs.RiskLaws.{risk_of-rows, row_of-size, risk_of-within, return_of-within}
@@ -145,17 +146,8 @@ IsFront-passed x y k e front = record {
     here i l (inl s) = rw s (front.above k (omega arith) ∙ sym e)
     here i l (inr n) = front.below i (omega (arith, n))
 
-same_list : (x y : List ℕ) → length y ≡ length x → ((i : ℕ) → i < length x → slice_index_or y i 0 ≡ slice_index_or x i 0) → y ≡ x
-same_list [] [] e h = refl
-same_list [] (b ∷ y) e h = cc
-same_list (a ∷ x) [] e h = cc
-same_list (a ∷ x) (b ∷ y) e h =
-    let first : b ≡ a = h 0 (omega arith) in
-    let rest : y ≡ x = same_list x y (omega arith) (λ i l. h (suc i) (omega arith)) in
-    ap (λ (z : ℕ). z ∷ y) first ∙ ap (λ (z : List ℕ). a ∷ z) rest
-
 pub IsFront-whole : (x y : List ℕ) → IsFront x (length x) y → y ≡ x
-IsFront-whole x y front = same_list x y front.size front.below
+IsFront-whole x y front = sym (same_list x y (sym front.size) (λ i l. sym (front.below i l)))
 
 -- ---- tables that are filled or changed place by place
 pub more_at : (f : ℕ → ℤ) (xs : List ℤ) (i j : ℕ) (v : ℤ) → j ≡ i → i < length xs → v ≡ f i → ((k : ℕ) → k < i → at xs k ≡ f k) → (k : ℕ) → k < i + 1 → at (slice_set xs j v) k ≡ f k

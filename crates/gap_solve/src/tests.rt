@@ -1,6 +1,6 @@
 //! Weights of small markets, from their start to their end.
 
-ghost use Rattle.std.specs.Prelude.{◌≡◌, ◌≤◌, ◌∷◌, [], IfOk};
+ghost use Rattle.std.specs.Prelude.{◌≡◌, ◌≤◌, IfOk};
 
 use super::*;
 use bumpalo::Bump;
@@ -8,6 +8,7 @@ use gap_base::{Job, Lots, Market, OutOfMemory, Weight, Weights};
 use gap_instance::Instance;
 use gap_model::{Best, Outcome};
 use gap_psd::{Shift, dominant};
+use gap_samples::{even, limited, two, two_apart};
 use gap_solved::Solved;
 use std::alloc::Global;
 use std::test::Fail;
@@ -72,61 +73,6 @@ fn ending(
     Ok(Some(end_of(&solved)))
 }
 
-/// The list of two numbers.
-fn two(a: u16, b: u16) -> Lots
-    ensures { result ≡ a ∷ b ∷ [] }
-{
-    let mut list = Lots::zeros(2);
-    list.set(0, a);
-    list.set(1, b);
-    list
-}
-
-/// Two assets that aren't correlated, with means of .001 and .002 and deviations of .1 and .2.
-fn market(alloc: Global) -> Result<Market, OutOfMemory>
-    ensures { IfOk result (λ m. m.assets ≡ 2) }
-{
-    let mut market = Market::new(alloc, 2)?;
-    market.set_mean(0, 1_000);
-    market.set_mean(1, 2_000);
-    market.set_dev(0, 100_000);
-    market.set_dev(1, 200_000);
-    Ok(market)
-}
-
-/// Two assets of which `held.0` to `held.1` are held, with lots of which each has at most `greatest`.
-#[tactic(auto, using(gap_instance::proofs::LimitLaws::few_numbers))]
-fn instance(
-    alloc: Global,
-    market: Market,
-    held: (u16, u16),
-    lots: u16,
-    greatest: u16,
-) -> Result<Instance, OutOfMemory>
-    requires market { market.assets ≡ 2 }
-    requires least { 1 ≤ held.0 }
-    requires order { held.0 ≤ held.1 }
-    requires most { held.1 ≤ 2 }
-    requires lots { lots ≤ 10 }
-    requires some { 1 ≤ greatest }
-    requires within { greatest ≤ lots }
-    ensures { IfOk result (λ inst. inst.market.assets ≡ 2) }
-{
-    let job = Job {
-        lots,
-        held: held.0,
-        held_most: held.1,
-        least: two(1, 1),
-        greatest: two(greatest, greatest),
-        present: two(0, 0),
-        turnover: None,
-        weights: Weights::new(),
-        nodes: 0,
-        workers: 1,
-    };
-    Instance::new(alloc, market, &job)
-}
-
 /// Two assets of which both are held with ten lots, and whose present lots may not be turned over.
 #[tactic(auto, using(gap_instance::proofs::LimitLaws::few_numbers))]
 fn settled(alloc: Global, first: u16, second: u16) -> Result<Instance, OutOfMemory>
@@ -146,7 +92,7 @@ fn settled(alloc: Global, first: u16, second: u16) -> Result<Instance, OutOfMemo
         nodes: 0,
         workers: 1,
     };
-    Instance::new(alloc, market(alloc)?, &job)
+    Instance::new(alloc, two_apart(alloc)?, &job)
 }
 
 /// A weight of the two assets with ten lots, by one worker.
@@ -164,7 +110,7 @@ fn of_two(
     requires q_most { w.1 ≤ 100 }
     requires nodes { nodes ≤ 100000 }
 {
-    let inst = instance(alloc, market(alloc)?, held, 10, 10)?;
+    let inst = limited(alloc, two_apart(alloc)?, held, 10, 10)?;
     let shift = Shift::zero(alloc, 2)?;
     ending(alloc, &inst, &shift, w, nodes, 1)
 }
@@ -202,7 +148,7 @@ fn an_open_weight_of_two_assets(rt: HostRuntime) -> Result<(), Fail> {
 #[test]
 fn sixteen_workers_end_as_one(rt: HostRuntime) -> Result<(), Fail> {
     let alloc = rt.alloc();
-    let inst = instance(alloc, market(alloc)?, (2, 2), 10, 10)?;
+    let inst = limited(alloc, two_apart(alloc)?, (2, 2), 10, 10)?;
     let shift = Shift::zero(alloc, 2)?;
     let end = ending(alloc, &inst, &shift, (1, 2), 120, 16)?;
     assert_eq!(rt; end, closed(3, 8, 2, 68));
@@ -214,9 +160,9 @@ fn limits_that_no_list_meets(rt: HostRuntime) -> Result<(), Fail> {
     let alloc = rt.alloc();
     let none: Option<End> = Some((0, None, None));
     let shift = Shift::zero(alloc, 2)?;
-    let few = instance(alloc, market(alloc)?, (2, 2), 1, 1)?;
+    let few = limited(alloc, two_apart(alloc)?, (2, 2), 1, 1)?;
     assert_eq!(rt; ending(alloc, &few, &shift, (1, 1), 0, 1)?, none);
-    let low = instance(alloc, market(alloc)?, (2, 2), 10, 4)?;
+    let low = limited(alloc, two_apart(alloc)?, (2, 2), 10, 4)?;
     assert_eq!(rt; ending(alloc, &low, &shift, (1, 1), 1000, 1)?, none);
     let nine = settled(alloc, 8, 1)?;
     assert_eq!(rt; ending(alloc, &nine, &shift, (1, 1), 0, 1)?, none);
@@ -250,7 +196,7 @@ fn level(alloc: Global, tenths: (u32, u32)) -> Result<Market, OutOfMemory>
 #[test]
 fn a_tie_of_two_equal_assets(rt: HostRuntime) -> Result<(), Fail> {
     let alloc = rt.alloc();
-    let inst = instance(alloc, level(alloc, (1, 1))?, (1, 1), 10, 10)?;
+    let inst = limited(alloc, level(alloc, (1, 1))?, (1, 1), 10, 10)?;
     let shift = Shift::zero(alloc, 2)?;
     let end = ending(alloc, &inst, &shift, (1, 1), 100, 1)?;
     assert_eq!(rt; end, closed(1, 10, 0, 100));
@@ -274,7 +220,7 @@ fn warmed(alloc: Global, inst: &Instance, x: &Lots) -> Result<Option<End>, OutOf
 #[test]
 fn a_weight_behind_another(rt: HostRuntime) -> Result<(), Fail> {
     let alloc = rt.alloc();
-    let inst = instance(alloc, level(alloc, (2, 1))?, (1, 1), 10, 10)?;
+    let inst = limited(alloc, level(alloc, (2, 1))?, (1, 1), 10, 10)?;
     let shift = Shift::zero(alloc, 2)?;
     let first = ending(alloc, &inst, &shift, (0, 1), 10, 1)?;
     assert_eq!(rt; first, closed(0, 10, 0, -10));
@@ -282,47 +228,11 @@ fn a_weight_behind_another(rt: HostRuntime) -> Result<(), Fail> {
     Ok(())
 }
 
-/// Three assets in lots, and the lots of which each has at most all.
-#[tactic(auto, using(gap_instance::proofs::LimitLaws::few_numbers))]
-fn three_assets(
-    alloc: Global,
-    market: Market,
-    held: u16,
-    lots: u16,
-) -> Result<Instance, OutOfMemory>
-    requires market { market.assets ≡ 3 }
-    requires least { 1 ≤ held }
-    requires most { held ≤ 3 }
-    requires some { 1 ≤ lots }
-    requires lots { lots ≤ 10 }
-    ensures { IfOk result (λ inst. inst.market.assets ≡ 3) }
-{
-    let job = Job {
-        lots,
-        held,
-        held_most: held,
-        least: Lots::filled(3, 1),
-        greatest: Lots::filled(3, lots),
-        present: Lots::zeros(3),
-        turnover: None,
-        weights: Weights::new(),
-        nodes: 0,
-        workers: 1,
-    };
-    Instance::new(alloc, market, &job)
-}
-
 #[test]
 fn three_assets_against_one_another(rt: HostRuntime) -> Result<(), Fail> {
     let alloc = rt.alloc();
-    let mut market = Market::new(alloc, 3)?;
-    market.set_dev(0, 100_000);
-    market.set_dev(1, 100_000);
-    market.set_dev(2, 100_000);
-    market.set_rho(0, 1, -1_000_000);
-    market.set_rho(0, 2, -1_000_000);
-    market.set_rho(1, 2, -1_000_000);
-    let inst = three_assets(alloc, market, 3, 9)?;
+    let market = even(alloc, 3, 100_000, -1_000_000)?;
+    let inst = limited(alloc, market, (3, 3), 9, 9)?;
     let mut shift = Shift::zero(alloc, 3)?;
     shift.set_d(0, UNIT);
     shift.set_d(1, UNIT);
@@ -341,7 +251,7 @@ fn the_better_two_of_three_assets(rt: HostRuntime) -> Result<(), Fail> {
     market.set_dev(0, 100_000);
     market.set_dev(1, 200_000);
     market.set_dev(2, 1_000_000);
-    let inst = three_assets(alloc, market, 2, 10)?;
+    let inst = limited(alloc, market, (2, 2), 10, 10)?;
     let shift = Shift::zero(alloc, 3)?;
     let bound = Some(611_718_750_000_000_000);
     let best = Some((68 * UNIT, 8, 2));

@@ -1,59 +1,23 @@
 //! Starts and polished lists of small instances.
 
-ghost use Rattle.std.specs.Prelude.{◌≡◌, ◌≤◌, [], ◌∷◌, IfOk, IfSome, length};
+ghost use Rattle.std.specs.Prelude.{◌≡◌, ◌≤◌, IfOk, IfSome, length};
 ghost use Rattle.gap_instance.specs.Instances.{AreBetween};
 
 use crate::{polish, rounded, start};
-use gap_base::{Eighths, Job, Lots, Market, OutOfMemory, Weight, Weights};
+use gap_base::{Eighths, Job, Lots, OutOfMemory, Weight, Weights};
 use gap_box::{Part, Side, Split};
 use gap_instance::Instance;
 use gap_objective::Holding;
+use gap_samples::{even, three, two, two_assets};
 use std::alloc::Global;
 use std::test::Fail;
-
-/// The list of two numbers.
-fn two(a: u16, b: u16) -> Lots
-    ensures { result ≡ a ∷ b ∷ [] }
-{
-    let mut list = Lots::zeros(2);
-    list.set(0, a);
-    list.set(1, b);
-    list
-}
-
-/// Two assets with means .001 and .002, deviations .1 and .2 and no correlation, and 10 lots in one or both.
-#[tactic(auto, using(gap_instance::proofs::LimitLaws::few_numbers))]
-fn instance(alloc: Global, fewest: u16) -> Result<Instance, OutOfMemory>
-    requires least { 1 ≤ fewest }
-    requires most { fewest ≤ 2 }
-    ensures { IfOk result (λ inst. inst.market.assets ≡ 2) }
-{
-    let mut market = Market::new(alloc, 2)?;
-    market.set_mean(0, 1000);
-    market.set_mean(1, 2000);
-    market.set_dev(0, 100_000);
-    market.set_dev(1, 200_000);
-    let job = Job {
-        lots: 10,
-        held: fewest,
-        held_most: 2,
-        least: two(1, 1),
-        greatest: two(10, 10),
-        present: two(0, 0),
-        turnover: None,
-        weights: Weights::new(),
-        nodes: 0,
-        workers: 1,
-    };
-    Instance::new(alloc, market, &job)
-}
 
 /// The two numbers of the list to which `x` is polished under the weight 1/q; 0 and 0 where it breaks a limit.
 #[tactic(auto, using(gap_instance::proofs::LimitLaws::few_numbers))]
 fn polished(alloc: Global, q: u8, x: &Lots) -> Result<(u16, u16), OutOfMemory>
     requires { AreBetween 2 0 10000 x.now }
 {
-    let inst = instance(alloc, 1)?;
+    let inst = two_assets(alloc, 1)?;
     let mut holding = Holding::new(&inst, Weight { p: 1, q }, x);
     if inst.keeps(holding.lots()).is_some() {
         return Ok((0, 0));
@@ -87,7 +51,7 @@ fn started(alloc: Global, fewest: u16, q: u8) -> Result<(u16, u16), OutOfMemory>
     requires least { 1 ≤ fewest }
     requires most { fewest ≤ 2 }
 {
-    let inst = instance(alloc, fewest)?;
+    let inst = two_assets(alloc, fewest)?;
     match start(&inst, Weight { p: 1, q }) {
         Some(list) => {
             if list.len() < 2 {
@@ -106,17 +70,6 @@ fn a_start_holds_two_assets_or_one(rt: HostRuntime) -> Result<(), Fail> {
     Ok(())
 }
 
-/// The list of three numbers.
-fn three(a: u16, b: u16, c: u16) -> Lots
-    ensures { result ≡ a ∷ b ∷ c ∷ [] }
-{
-    let mut list = Lots::zeros(3);
-    list.set(0, a);
-    list.set(1, b);
-    list.set(2, c);
-    list
-}
-
 /// Three assets with means 0, deviations .1 and no correlation, and 10 lots in `fewest` to `most` of them.
 #[tactic(auto, using(gap_instance::proofs::LimitLaws::few_numbers))]
 fn alike(
@@ -133,10 +86,7 @@ fn alike(
     requires turnover { IfSome turnover (λ t. t ≤ 3000000) }
     ensures { IfOk result (λ inst. inst.market.assets ≡ 3) }
 {
-    let mut market = Market::new(alloc, 3)?;
-    market.set_dev(0, 100_000);
-    market.set_dev(1, 100_000);
-    market.set_dev(2, 100_000);
+    let market = even(alloc, 3, 100_000, 0)?;
     let job = Job {
         lots: 10,
         held: fewest,

@@ -5,9 +5,7 @@ ghost use Rattle.gap_box.specs.Parts.{IsWithin, root_cells};
 ghost use Rattle.gap_model.specs.Leaves.{IsPoint, AreMultipliers};
 ghost use Rattle.gap_tangent.specs.Seen.{setting_of};
 
-use crate::tests::drawing::{
-    drawn, instance, lots_between, point, shift_of, split_once, two_assets,
-};
+use crate::tests::drawing::{drawn, instance, lots_between, point, shift_of, split_once};
 use crate::tests::listing::listed;
 use crate::{MeanVariance, Tangent, theta, void_theta};
 use gap_base::{Eighths, OutOfMemory, Weight, Witness};
@@ -16,6 +14,7 @@ use gap_instance::Instance;
 use gap_lines::Line;
 use gap_model::{Entry, Leaf, NodeBound, Shown};
 use gap_psd::{Shift, dominant};
+use gap_samples::two_assets;
 use std::alloc::Global;
 use std::test::Fail;
 
@@ -32,7 +31,7 @@ fn root_theta(mv: &MeanVariance<'_>, w: &Witness) -> Option<i128>
 
 #[test]
 fn thetas_of_two_assets(rt: HostRuntime) -> Result<(), Fail> {
-    let inst = two_assets(rt.alloc())?;
+    let inst = two_assets(rt.alloc(), 2)?;
     let shift = Shift::zero(rt.alloc(), 2)?;
     let row = dominant(&inst, &shift);
     assert!(rt; row.is_none());
@@ -69,7 +68,7 @@ fn root_line(mv: &MeanVariance<'_>, y: &Eighths) -> Option<Line>
 
 #[test]
 fn a_line_through_theta(rt: HostRuntime) -> Result<(), Fail> {
-    let inst = two_assets(rt.alloc())?;
+    let inst = two_assets(rt.alloc(), 2)?;
     let shift = Shift::zero(rt.alloc(), 2)?;
     let row = dominant(&inst, &shift);
     assert!(rt; row.is_none());
@@ -159,7 +158,7 @@ fn thetas_by_all_lists(rt: HostRuntime) -> Result<(), Fail> {
 
 #[test]
 fn leaves_of_two_assets(rt: HostRuntime) -> Result<(), Fail> {
-    let inst = two_assets(rt.alloc())?;
+    let inst = two_assets(rt.alloc(), 2)?;
     let shift = Shift::zero(rt.alloc(), 2)?;
     let row = dominant(&inst, &shift);
     assert!(rt; row.is_none());

@@ -21,12 +21,13 @@ use std::alloc::Global;
 
 /// A guide that makes the first split that it finds. A child with more than one list gets the tangent that shows most
 /// of those at the 64 points, each with one of three multipliers; where the guide tries lists, the point's list is a
-/// candidate. The guide has memory for so many branches.
+/// candidate. The guide has memory for so many branches, and counts how often it is asked for a list.
 #[derive(Drop)]
 pub struct Listing<'a> {
     pub points: &'a [Entry],
     pub tries: bool,
     pub branches: u32,
+    pub asked: u32,
 }
 
 /// The entries of eight times each of the 64 lists of numbers below 4, three for each list.
@@ -313,6 +314,7 @@ impl<'a> Guide<'a, Small> for Listing<'a> {
     }
 
     fn candidate(&mut self, _bound: &Small, _part: &Part, leaf: &Leaf<'a>) -> Option<Lots> {
+        self.asked = self.asked.wrapping_add(1);
         if self.tries { point_of(leaf) } else { None }
     }
 }

@@ -215,13 +215,13 @@ fn falling(
 }
 
 /// A search whose guide stops after some splits, and that goes on from its tree with other workers: how many splits were
-/// made before, and how it ends.
+/// made before, how it ends, and how many splits it has then.
 fn resumed(
     alloc: Global,
     small: Small,
     guide: &mut Listing<'_>,
     workers: u8,
-) -> Result<(u32, Told), OutOfMemory>
+) -> Result<(u32, Told, u32), OutOfMemory>
     requires least { 1 ≤ workers }
     requires most { workers ≤ 16 }
 {
@@ -233,7 +233,7 @@ fn resumed(
     let mut next = Search::from_tree(alloc, small, tree, 100, workers, None)?;
     guide.branches = 1000;
     drive(&mut next, guide)?;
-    Ok((before, ending(&next)))
+    Ok((before, ending(&next), next.inner()))
 }
 
 /// A guide over all points.
@@ -242,6 +242,7 @@ fn guide_of<'a>(points: &'a [Entry], tries: bool) -> Listing<'a> {
         points,
         tries,
         branches: 1000,
+        asked: 0,
     }
 }
 
@@ -310,7 +311,7 @@ fn a_tree_goes_on_to_the_least(rt: HostRuntime) -> Result<(), Fail> {
         for lots in [4, 5, 7] {
             let small = Small { seed, lots };
             let mut guide = guide_of(points.as_slice(), lots == 5);
-            let (before, told) = resumed(alloc, small, &mut guide, seed as u8)?;
+            let (before, told, _splits) = resumed(alloc, small, &mut guide, seed as u8)?;
             let due = due(i128::from(seed), u32::from(lots));
             assert_eq!(rt;
                 (before <= 1, told),
@@ -319,6 +320,26 @@ fn a_tree_goes_on_to_the_least(rt: HostRuntime) -> Result<(), Fail> {
             );
         }
     }
+    Ok(())
+}
+
+#[test]
+fn the_tree_of_no_list_is_the_same(rt: HostRuntime) -> Result<(), Fail> {
+    let alloc = rt.alloc();
+    let points = all_points(alloc)?;
+    let small = Small { seed: 2, lots: 7 };
+    let mut guide = guide_of(points.as_slice(), false);
+    let whole = driven(alloc, small, &mut guide, 100, 1)?;
+    assert_eq!(rt; whole.0, Told::NoList);
+    assert_eq!(rt; u64::from(guide.asked), 2 * u64::from(whole.1));
+    for workers in [2, 16] {
+        let told = driven(alloc, small, &mut guide, 100, workers)?;
+        assert_eq!(rt; told, whole, "{workers} workers");
+    }
+    let (told, splits, _many) = falling(alloc, small, &mut guide)?;
+    assert_eq!(rt; (told, splits), whole);
+    let resumed = resumed(alloc, small, &mut guide, 4)?;
+    assert_eq!(rt; resumed, (1, whole.0, whole.1));
     Ok(())
 }
 
@@ -338,6 +359,10 @@ fn a_small_budget_leaves_a_bound(rt: HostRuntime) -> Result<(), Fail> {
         }
     }
     assert!(rt; bounded > 0, "each search ended");
+    let mut guide = guide_of(points.as_slice(), false);
+    let (told, splits) = driven(alloc, Small { seed: 2, lots: 7 }, &mut guide, 5, 2)?;
+    assert_eq!(rt; (splits, guide.asked), (5, 10));
+    assert!(rt; matches!(told, Told::Bounded(_)), "some leaves wait");
     Ok(())
 }
 
@@ -350,7 +375,7 @@ fn a_guide_without_memory_gives_its_leaf_back(rt: HostRuntime) -> Result<(), Fai
     let mut search = opened(alloc, small, guide.points, 100, 4)?;
     guide.branches = 3;
     assert_eq!(rt; drive(&mut search, &mut guide), Err(OutOfMemory));
-    assert_eq!(rt; search.inner(), 3);
+    assert_eq!(rt; (search.inner(), guide.asked), (3, 6));
     assert!(rt;
         matches!(ending(&search), Told::Bounded(_)),
         "the leaf waits again"

@@ -1,24 +1,15 @@
 //! The first difference of a certificate and a job, with its line.
 
-ghost use Rattle.std.specs.Prelude.{◌≡◌, ◌≤◌, [], ◌∷◌, IfOk, unsigned_abs};
+ghost use Rattle.std.specs.Prelude.{◌≡◌, ◌≤◌, IfOk, unsigned_abs};
 ghost use Rattle.gap_instance.specs.Instances.{AreLimits};
 
 use crate::{Difference, Field, Said, first_difference};
-use gap_base::{Job, Lots, Market, OutOfMemory, Weight, Weights};
+use gap_base::{Job, Market, OutOfMemory, Weight, Weights};
 use gap_instance::Instance;
 use gap_model::{Outcome, Told};
+use gap_samples::two;
 use std::alloc::Global;
 use std::test::Fail;
-
-/// The list of two numbers.
-fn two(a: u16, b: u16) -> Lots
-    ensures { result ≡ a ∷ b ∷ [] }
-{
-    let mut list = Lots::zeros(2);
-    list.set(0, a);
-    list.set(1, b);
-    list
-}
 
 /// Ten lots in `fewest` to two assets, of the second no more than `most`, and one weight.
 #[tactic(auto, using(gap_instance::proofs::LimitLaws::few_numbers))]

@@ -1,6 +1,6 @@
 //! Splits of small parts, and tangent points of two assets.
 
-ghost use Rattle.std.specs.Prelude.{◌≡◌, ◌≢◌, ◌≤◌, length, pos, negsuc, IsTrue, IfOk};
+ghost use Rattle.std.specs.Prelude.{◌≡◌, ◌≢◌, ◌≤◌, length, pos, negsuc, IsTrue};
 ghost use Rattle.gap_box.specs.Parts.{IsWithin, root_cells};
 ghost use Rattle.gap_model.specs.declared.leaf.Leaf.TheVariants.{Void};
 ghost use Rattle.gap_model.specs.declared.shown.Shown.TheVariants.{Empty};
@@ -8,26 +8,18 @@ ghost use Rattle.gap_model.specs.Leaves.{shows};
 ghost use Rattle.gap_tangent.specs.Seen.{setting_of};
 
 use crate::{split_for, tangent_point};
-use gap_base::{Eighths, Job, Lots, Market, OutOfMemory, Weight, Weights};
+use gap_base::{Eighths, Lots, OutOfMemory, Weight};
 use gap_box::{Part, Side, Split};
-use gap_instance::Instance;
 use gap_model::{Leaf, NodeBound, Shown};
 use gap_psd::{Shift, dominant};
+use gap_samples::two_assets;
 use gap_tangent::MeanVariance;
 use std::alloc::Global;
 use std::test::Fail;
 
 /// Three assets that may each be held with 1 to 10 lots.
 fn three_free() -> Part {
-    let mut least = Lots::zeros(3);
-    least.set(0, 1);
-    least.set(1, 1);
-    least.set(2, 1);
-    let mut greatest = Lots::zeros(3);
-    greatest.set(0, 10);
-    greatest.set(1, 10);
-    greatest.set(2, 10);
-    Part::root(&least, &greatest)
+    Part::root(&Lots::filled(3, 1), &Lots::filled(3, 10))
 }
 
 /// The split of a part that may hold from `k1` to `k2` of three assets, by a point; None where the part isn't one of
@@ -106,33 +98,6 @@ fn the_widest_held_asset_is_cut(rt: HostRuntime) -> Result<(), Fail> {
     part.narrow(Split::Lots(1, 3), Side::First);
     assert_eq!(rt; split_by(&part, 1, 3, (80, 40, 0)), Some(Split::Lots(2, 7)));
     Ok(())
-}
-
-/// Two assets that aren't correlated: ten lots in `fewest` to 2 of them.
-#[tactic(auto, using(gap_instance::proofs::LimitLaws::few_numbers))]
-fn two_assets(alloc: Global, fewest: u16) -> Result<Instance, OutOfMemory>
-    requires least { 1 ≤ fewest }
-    requires most { fewest ≤ 2 }
-    ensures { IfOk result (λ inst. inst.market.assets ≡ 2) }
-{
-    let mut market = Market::new(alloc, 2)?;
-    market.set_mean(0, 1_000);
-    market.set_mean(1, 2_000);
-    market.set_dev(0, 100_000);
-    market.set_dev(1, 200_000);
-    let job = Job {
-        lots: 10,
-        held: fewest,
-        held_most: 2,
-        least: Lots::filled(2, 1),
-        greatest: Lots::filled(2, 10),
-        present: Lots::zeros(2),
-        turnover: None,
-        weights: Weights::new(),
-        nodes: 0,
-        workers: 1,
-    };
-    Instance::new(alloc, market, &job)
 }
 
 /// Is it left open whether there is a list?

@@ -1,6 +1,6 @@
 //! Instances, points and parts drawn from numbers.
 
-ghost use Rattle.std.specs.Prelude.{◌≡◌, ℕ, ◌*◌, ◌^◌, ◌<◌, ◌≤◌, length, slice_index_or, Option, None, IfOk, IfSome, unsigned_abs};
+ghost use Rattle.std.specs.Prelude.{◌≡◌, ℕ, ◌*◌, ◌^◌, ◌<◌, ◌≤◌, length, slice_index_or, Option, IfOk, IfSome, unsigned_abs};
 ghost use Rattle.std.specs.Option.{ForSome};
 ghost use Rattle.gap_box.specs.Parts.{IsWithin};
 ghost use Rattle.gap_instance.specs.Instances.{AreLimits, AreBetween};
@@ -119,32 +119,6 @@ pub(crate) fn instance(
         set_asset(&mut market, seed, i);
     }
     Instance::new(alloc, market, &job_of(seed, n, lots, held, turnover))
-}
-
-/// The instance of two assets with means .001 and .002, deviations .1 and .2, no correlation and 10 lots in both.
-pub(crate) fn two_assets(alloc: Global) -> Result<Instance, OutOfMemory>
-    ensures assets { IfOk result (λ inst. inst.market.assets ≡ 2) }
-    ensures lots { IfOk result (λ inst. inst.lots ≡ 10) }
-    ensures turnover { IfOk result (λ inst. inst.turnover ≡ None) }
-{
-    let mut market = Market::new(alloc, 2)?;
-    market.set_mean(0, 1_000);
-    market.set_mean(1, 2_000);
-    market.set_dev(0, 100_000);
-    market.set_dev(1, 200_000);
-    let job = Job {
-        lots: 10,
-        held: 2,
-        held_most: 2,
-        least: between(0, 2, 1, 1),
-        greatest: between(0, 2, 10, 10),
-        present: between(0, 2, 0, 0),
-        turnover: None,
-        weights: Weights::new(),
-        nodes: 0,
-        workers: 1,
-    };
-    Instance::new(alloc, market, &job)
 }
 
 /// A shift that is dominant for each instance of at most five assets.

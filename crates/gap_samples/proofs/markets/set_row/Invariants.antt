@@ -1,5 +1,5 @@
 use Rattle.std.proofs.Common.{◌≡◌}
-use Rattle.gap_psd.proofs.tests.set_row.Given as goal
+use Rattle.gap_samples.proofs.markets.set_row.Given as goal
 
 abbrev pub invariant-loop-j : goal.invariant-loop-j
 invariant-loop-j l = l.market.assets ≡ l.fn.market.assets
