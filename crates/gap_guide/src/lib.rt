@@ -3,7 +3,10 @@
 #![tactic(auto)]
 
 mod hint;
+mod seen;
 mod steering;
+#[cfg(test)]
+mod tests;
 
 pub use hint::witness_of;
 pub use steering::Steering;

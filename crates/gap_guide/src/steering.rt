@@ -6,6 +6,7 @@ ghost use Rattle.gap_model.specs.Problems.{tangent_problem, IsPart};
 ghost use Rattle.gap_leaf.specs.Finding.{IsLeafFor};
 
 use crate::hint::witness_of;
+use crate::seen::was_seen;
 use bumpalo::Bump;
 use gap_base::{Lots, OutOfMemory};
 use gap_box::{Part, Side, Split};
@@ -13,23 +14,35 @@ use gap_drive::Guide;
 use gap_leaf::Hinted;
 use gap_model::{Leaf, NodeBound};
 use gap_search::Ticket;
-use gap_start::rounded;
+use gap_start::{polished, rounding_of};
 use gap_tangent::MeanVariance;
 use gap_witness::split_for;
+use std::alloc::Global;
+use std::collections::HashSet;
 
 /// A guide over an arena, in which it places the entries of leaves.
 ///
 /// It allows the splits that cut their part, and a leaf fits that is no tangent, or shows no less than its own point under
 /// any alpha.
+///
+/// It tries no list twice: the lists to which points were rounded are kept, the first 4096 of them, since each would be
+/// polished to the same list again. That takes some 2N + 50 bytes a list, 3 MB at most, which are given back with the
+/// guide; a list that no memory is given for isn't kept. A list is found again in O(N).
 #[derive(Drop)]
 pub struct Steering<'a> {
+    alloc: Global,
     arena: &'a Bump,
+    seen: HashSet<Vec<u16>>,
 }
 
 impl<'a> Steering<'a> {
-    /// A guide over an arena.
-    pub fn new(arena: &'a Bump) -> Steering<'a> {
-        Steering { arena }
+    /// A guide over an arena, which has seen no list. It takes no memory.
+    pub fn new(alloc: Global, arena: &'a Bump) -> Steering<'a> {
+        Steering {
+            alloc,
+            arena,
+            seen: HashSet::new(alloc),
+        }
     }
 }
 
@@ -81,6 +94,11 @@ impl<'a, 'm> Guide<'a, MeanVariance<'m>> for Steering<'a> {
         leaf: &Leaf<'a>,
     ) -> Option<Lots> {
         let hint = witness_of(bound, leaf)?;
-        rounded(bound.instance(), bound.weight(), part, &hint.y)
+        let inst = bound.instance();
+        let list = rounding_of(inst, bound.weight(), part, &hint.y);
+        if was_seen(&mut self.seen, self.alloc, &list) {
+            return None;
+        }
+        polished(inst, bound.weight(), &list)
     }
 }

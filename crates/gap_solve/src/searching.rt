@@ -33,7 +33,7 @@ pub fn searched<'a, 'm>(
 {
     let leaf = root_leaf(&bound, point_of(bound.instance(), found), arena)?;
     let mut search = Search::new(alloc, bound, nodes, workers, leaf, found.as_ref())?;
-    let mut guide = Steering::new(arena);
+    let mut guide = Steering::new(alloc, arena);
     drive(&mut search, &mut guide)?;
     Ok(search)
 }

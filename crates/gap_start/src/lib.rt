@@ -10,5 +10,5 @@ mod step;
 mod tests;
 
 pub use polishing::polish;
-pub use rounding::rounded;
+pub use rounding::{polished, rounded, rounding_of};
 pub use starting::start;

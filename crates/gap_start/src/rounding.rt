@@ -19,9 +19,7 @@ use gap_instance::Instance;
 use gap_objective::Holding;
 
 /// The point `y` rounded to a list on a part, and polished: None exactly where the list to which it is rounded breaks a
-/// limit. The assets that must be held and then those that may be, by falling eighths, get their whole lots, and one lot
-/// at a time is added or taken to come to the sum. Costs O(N) for each asset that is held and for each lot, O(K * N) for
-/// each step of the polish, and takes no memory.
+/// limit. Costs what `rounding_of` and `polished` cost, and takes no memory.
 pub fn rounded(inst: &Instance, w: Weight, part: &Part, y: &Eighths) -> Option<Lots>
     requires cells { length part.now ≡ inst.now.market.assets }
     requires point { length y.now ≡ inst.now.market.assets }
@@ -39,21 +37,51 @@ pub fn rounded(inst: &Instance, w: Weight, part: &Part, y: &Eighths) -> Option<L
         → objective inst.now w.p w.q z ≤ℤ objective inst.now w.p w.q x) }
     ensures best { IfSome result (HasNoBetterNeighbour inst.now w.p w.q) }
 {
+    let list = rounding_of(inst, w, part, y);
+    polished(inst, w, &list)
+}
+
+/// The list to which the point `y` is rounded on a part, which may break a limit. The assets that must be held and then
+/// those that may be, by falling eighths, get their whole lots, and one lot at a time is added or taken to come to the
+/// sum. Costs O(N) for each asset that is held and for each lot, and takes no memory.
+pub fn rounding_of(inst: &Instance, w: Weight, part: &Part, y: &Eighths) -> Lots
+    requires cells { length part.now ≡ inst.now.market.assets }
+    requires point { length y.now ≡ inst.now.market.assets }
+    ensures rounding { IsRounding inst.now w.p w.q part.now y.now result }
+
+    // It is rounded to no other.
+    ensures only { (x z : List ℕ) → IsRounding inst.now w.p w.q part.now y.now x
+        → IsRounding inst.now w.p w.q part.now y.now z → x ≡ z }
+{
     let marks = chosen(inst, part, y);
     let first = rounded_down(inst, &marks, y);
-    let mut holding = brought(inst, w, &marks, &first);
-    if !meets_limits(&holding) {
+    let filled = brought(inst, w, &marks, &first);
+    filled.lots().copy()
+}
+
+/// A list polished: None exactly where it breaks a limit. Costs O(N) for each asset that is held, O(K * N) for each step
+/// of the polish, and takes no memory.
+pub fn polished(inst: &Instance, w: Weight, list: &Lots) -> Option<Lots>
+    ensures none { IsNone result ↔ (MeetsLimits inst.now list.now → ⊥) }
+    ensures meets { IfSome result (MeetsLimits inst.now) }
+    ensures better { IfSome result
+        (λ z. objective inst.now w.p w.q z ≤ℤ objective inst.now w.p w.q list.now) }
+    ensures best { IfSome result (HasNoBetterNeighbour inst.now w.p w.q) }
+{
+    let _assets = inst.n();
+    if !meets_limits(inst, list) {
         return None;
     }
+    let mut holding = Holding::new(inst, w, list);
     polish(&mut holding);
     Some(holding.lots().copy())
 }
 
-/// Does the list of a holding meet the limits?
-fn meets_limits(h: &Holding<'_>) -> bool
-    ensures { IsTrue result ↔ MeetsLimits h.now.instance h.now.lots }
+/// Does a list meet the limits?
+fn meets_limits(inst: &Instance, list: &Lots) -> bool
+    ensures { IsTrue result ↔ MeetsLimits inst.now list.now }
 {
-    h.instance().keeps(h.lots()).is_none()
+    inst.keeps(list).is_none()
 }
 
 /// One for each asset that is held, zero for the others.

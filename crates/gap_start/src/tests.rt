@@ -3,7 +3,7 @@
 ghost use Rattle.std.specs.Prelude.{◌≡◌, ◌≤◌, IfOk, IfSome, length};
 ghost use Rattle.gap_instance.specs.Instances.{AreBetween};
 
-use crate::{polish, rounded, start};
+use crate::{polish, polished, rounded, rounding_of, start};
 use gap_base::{Eighths, Job, Lots, OutOfMemory, Weight, Weights};
 use gap_box::{Part, Side, Split};
 use gap_instance::Instance;
@@ -14,7 +14,7 @@ use std::test::Fail;
 
 /// The two numbers of the list to which `x` is polished under the weight 1/q; 0 and 0 where it breaks a limit.
 #[tactic(auto, using(gap_instance::proofs::LimitLaws::few_numbers))]
-fn polished(alloc: Global, q: u8, x: &Lots) -> Result<(u16, u16), OutOfMemory>
+fn after_polish(alloc: Global, q: u8, x: &Lots) -> Result<(u16, u16), OutOfMemory>
     requires { AreBetween 2 0 10000 x.now }
 {
     let inst = two_assets(alloc, 1)?;
@@ -33,16 +33,16 @@ fn polished(alloc: Global, q: u8, x: &Lots) -> Result<(u16, u16), OutOfMemory>
 #[test]
 #[tactic(auto, using(gap_instance::proofs::LimitLaws::few_numbers))]
 fn no_lot_goes_to_an_asset_that_is_not_held(rt: HostRuntime) -> Result<(), Fail> {
-    assert_eq!(rt; polished(rt.alloc(), 1, &two(10, 0))?, (10, 0));
-    assert_eq!(rt; polished(rt.alloc(), 1, &two(0, 10))?, (10, 0));
+    assert_eq!(rt; after_polish(rt.alloc(), 1, &two(10, 0))?, (10, 0));
+    assert_eq!(rt; after_polish(rt.alloc(), 1, &two(0, 10))?, (10, 0));
     Ok(())
 }
 
 #[test]
 #[tactic(auto, using(gap_instance::proofs::LimitLaws::few_numbers))]
 fn lots_move_to_the_best_of_two_held(rt: HostRuntime) -> Result<(), Fail> {
-    assert_eq!(rt; polished(rt.alloc(), 2, &two(3, 7))?, (8, 2));
-    assert_eq!(rt; polished(rt.alloc(), 1, &two(9, 1))?, (8, 2));
+    assert_eq!(rt; after_polish(rt.alloc(), 2, &two(3, 7))?, (8, 2));
+    assert_eq!(rt; after_polish(rt.alloc(), 1, &two(9, 1))?, (8, 2));
     Ok(())
 }
 
@@ -67,6 +67,28 @@ fn started(alloc: Global, fewest: u16, q: u8) -> Result<(u16, u16), OutOfMemory>
 fn a_start_holds_two_assets_or_one(rt: HostRuntime) -> Result<(), Fail> {
     assert_eq!(rt; started(rt.alloc(), 2, 2)?, (8, 2));
     assert_eq!(rt; started(rt.alloc(), 1, 1)?, (10, 0));
+    Ok(())
+}
+
+/// The first two numbers of a list.
+fn pair(list: &Lots) -> (u16, u16) {
+    let _assets = list.len();
+    (list.get(0), list.get(1))
+}
+
+#[test]
+#[tactic(auto, using(gap_instance::proofs::LimitLaws::few_numbers))]
+fn a_point_is_rounded_before_it_is_polished(rt: HostRuntime) -> Result<(), Fail> {
+    let inst = two_assets(rt.alloc(), 1)?;
+    let w = Weight { p: 1, q: 2 };
+    let part = Part::root(&two(1, 1), &two(10, 10));
+    let mut y = Eighths::zeros(2);
+    y.set(0, 24);
+    y.set(1, 56);
+    let list = rounding_of(&inst, w, &part, &y);
+    assert_eq!(rt; pair(&list), (3, 7));
+    assert_eq!(rt; polished(&inst, w, &list).map(|x| pair(&x)), Some((8, 2)));
+    assert!(rt; polished(&inst, w, &two(3, 8)).is_none());
     Ok(())
 }
 
