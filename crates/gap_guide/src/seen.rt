@@ -11,8 +11,8 @@ use std::collections::HashSet;
 /// How many lists are kept at most.
 const MOST: usize = 4096;
 
-/// Is the list among those that were seen? If not it is put there, where fewer than 4096 are and memory is given: some
-/// 2N + 50 bytes. It is found by a hash and compared whole: this costs O(N).
+/// Is the list among those that were seen? If not it is put there where memory is given, some 2N + 50 bytes, after all
+/// others were dropped where they are 4096. It is found by a hash and compared whole: this costs O(N).
 pub fn was_seen(seen: &mut HashSet<Vec<u16>>, alloc: Global, list: &Lots) -> bool
     ensures seen { IsTrue result → IsTrue (contains_by (λ v. pointwise nat_eq list.now v.items) seen.old) }
 {
@@ -22,15 +22,20 @@ pub fn was_seen(seen: &mut HashSet<Vec<u16>>, alloc: Global, list: &Lots) -> boo
     }
 }
 
-/// Are the numbers among the lists that were seen? If not they are put there, where there is room and memory.
+/// Are the numbers among the lists that were seen? If not they are put there where memory is given, after the others were
+/// dropped where there is no room.
 fn meets_again(seen: &mut HashSet<Vec<u16>>, numbers: Vec<u16>) -> bool
     ensures seen { result ≡ contains_by (λ v. pointwise nat_eq numbers.items v.items) seen.old }
 {
     if seen.len() < MOST {
-        matches!(seen.insert(numbers), Ok(false))
-    } else {
-        seen.contains(numbers.as_slice())
+        return matches!(seen.insert(numbers), Ok(false));
     }
+    let found = seen.contains(numbers.as_slice());
+    if !found {
+        seen.clear();
+        let _kept = seen.insert(numbers);
+    }
+    found
 }
 
 /// The numbers of a list.

@@ -25,9 +25,10 @@ use std::collections::HashSet;
 /// It allows the splits that cut their part, and a leaf fits that is no tangent, or shows no less than its own point under
 /// any alpha.
 ///
-/// It tries no list twice: the lists to which points were rounded are kept, the first 4096 of them, since each would be
-/// polished to the same list again. That takes some 2N + 50 bytes a list, 3 MB at most, which are given back with the
-/// guide; a list that no memory is given for isn't kept. A list is found again in O(N).
+/// It polishes no list twice that it still knows: the lists to which points were rounded are kept, 4096 at most, since each
+/// would be polished to the same list again; where one more comes the others are dropped. That takes some 2N + 50 bytes a
+/// list, 3 MB at most, which are given back with the guide; a list that no memory is given for isn't kept. A list is found
+/// again in O(N).
 #[derive(Drop)]
 pub struct Steering<'a> {
     alloc: Global,
