@@ -3,4 +3,5 @@ pub mod DifferenceLaws
 pub mod Order
 pub mod Places
 pub mod Prices
+pub mod RowLaws
 pub mod WayLaws

@@ -99,7 +99,7 @@ around_is xs front back last k p e s =
 fewer_below : (n : ℕ) (d : ℕ → ℤ) (low high : ℤ) → low ≤ℤ high → count_if n (λ i. int_lt (d i) low) ≤ count_if n (λ i. int_lt (d i) high)
 fewer_below n d low high h = count_implied n (λ i. int_lt (d i) low) (λ i. int_lt (d i) high) (λ i l e. let a = lt_true (d i) low e in lt_is (d i) high (omega (arith, ints)))
 
-not_is : (a b : ℤ) → b ≤ℤ a → not (int_lt a b) ≡ true
+pub not_is : (a b : ℤ) → b ≤ℤ a → not (int_lt a b) ≡ true
 not_is a b h = rw (lt_not a b h) refl
 
 not_tells : (a b : ℤ) → not (int_lt a b) ≡ true → b ≤ℤ a

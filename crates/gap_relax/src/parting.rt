@@ -3,7 +3,7 @@
 ghost use Rattle.std.specs.Prelude.{◌≡◌, ℕ, ◌-◌, ◌*◌, ◌<◌, ◌≤◌, length, List, Bool, not, cond, if◌then◌else◌, ℤ, pos, ◌+ℤ◌, int_lt, unsigned_abs};
 ghost use Rattle.gap_base.specs.Sums.{sum_below, count_if, at, AreWithin};
 ghost use Rattle.gap_relax.specs.Choices.{most_cost};
-ghost use Rattle.gap_relax.specs.Partings.{is_tie, takes, IsParted, IsAround};
+ghost use Rattle.gap_relax.specs.Partings.{is_tie, takes, with_less, IsParted, IsAround, IsGreatestAt};
 
 /// A price that parts the numbers that are taken from those that are left, and how many are taken.
 #[derive(Clone, Copy)]
@@ -76,8 +76,71 @@ fn nth_least(numbers: &[i128], k: usize) -> i128
     requires most { k ≤ length numbers.now }
     ensures { IsAround (length numbers.now) (at numbers.now) k result }
 {
+    if k <= 32 {
+        let mut row = [0; 32];
+        return nth_in_row(&mut row[..k], numbers);
+    }
     let mut row = [0; 256];
     nth_least_in(&mut row[..numbers.len()], numbers, k)
+}
+
+/// The greatest of the least numbers, as many as there is room for: a number that isn't below the greatest one kept is
+/// dropped at once, and else takes its place.
+fn nth_in_row(row: &mut [i128], numbers: &[i128]) -> i128
+    requires length { length numbers.now ≤ 256 }
+    requires least { 1 ≤ length row.old }
+    requires most { length row.old ≤ length numbers.now }
+    ensures { IsAround (length numbers.now) (at numbers.now) (length row.old) result }
+{
+    let room = row.len();
+    row.copy_from_slice(&numbers[..room]);
+    let mut top = place_of_greatest(row);
+    for i in room..numbers.len() {
+        let number = number_at(numbers, i);
+        top = kept_with(row, top, number);
+    }
+    let last = number_at(row, top);
+    last
+}
+
+/// The number at place `i`.
+fn number_at(numbers: &[i128], i: usize) -> i128
+    requires { i < length numbers.now }
+    ensures { result ≡ at numbers.now i }
+{
+    numbers[i]
+}
+
+/// Puts a number in the place of the greatest of the row where it is below it; answers the place of the greatest then.
+fn kept_with(row: &mut [i128], top: usize, number: i128) -> usize
+    requires least { 1 ≤ length row.old }
+    requires most { length row.old ≤ 256 }
+    requires there { top < length row.old }
+    ensures row { row.new ≡ with_less row.old top number }
+    ensures there { result < length row.new }
+    ensures greatest { IsGreatestAt row.old top → IsGreatestAt row.new result }
+{
+    if number < row[top] {
+        row[top] = number;
+        return place_of_greatest(row);
+    }
+    top
+}
+
+/// The place of the greatest number of the row.
+fn place_of_greatest(row: &[i128]) -> usize
+    requires least { 1 ≤ length row.now }
+    requires most { length row.now ≤ 256 }
+    ensures there { result < length row.now }
+    ensures greatest { IsGreatestAt row.now result }
+{
+    let mut top = 0;
+    for i in 1..row.len() {
+        if row[top] < row[i] {
+            top = i;
+        }
+    }
+    top
 }
 
 /// The same, with room for the numbers in another order.
