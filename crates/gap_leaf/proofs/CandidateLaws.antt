@@ -100,3 +100,8 @@ kept_best s part y alpha tau t new better m e h (inr q) l k = subst (λ (p : Pri
 kept_best s part y alpha tau t new better m e h (inl q) l k =
     subst (λ (p : Priced). AreBestAt s part y p.alpha p.tau p.theta) (sym q)
     (best_kept s part y alpha tau t new.alpha new.tau new.theta m e h (subst (λ (p : Priced). new.theta ≤ℤ p.theta) q l) k)
+
+-- where no turnover is set theta at multipliers in range is no more than at the best ones
+pub none_less : (s : Setting) (part : List Cell) (y : ℕ → ℤ) (alpha tau t : ℤ) → AreMultipliers s.instance.turnover alpha tau → s.instance.turnover ≡ None → IsMostAt s part y t → alpha_curve s part y tau alpha ≤ℤ t
+unfolding IsMostAt
+none_less s part y alpha tau t m e h = subst (λ (z : ℤ). alpha_curve s part y z alpha ≤ℤ t) (sym (m.tau_unset e)) (h alpha m.alpha_most)
