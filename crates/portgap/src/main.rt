@@ -4,6 +4,7 @@
 use gap_files::{RealFiles, RealSink};
 use std::alloc::Global;
 use std::env;
+use std::io::{self, ErrorKind};
 use std::process::ExitCode;
 
 /// The words after the program's name; None where memory is refused.
@@ -15,6 +16,15 @@ fn words_of(alloc: Global, args: env::Args) -> Option<Vec<String>> {
         }
     }
     Some(words)
+}
+
+/// The status where the words can't be taken in: 1 where memory is refused, else 10.
+fn refusal_of(error: &io::Error) -> u8 {
+    if error.kind() == ErrorKind::OutOfMemory {
+        1
+    } else {
+        10
+    }
 }
 
 /// What a status without a line of its own means, for standard error; None where a line or a report says it.
@@ -31,8 +41,9 @@ fn meaning(status: u8) -> Option<&'static str> {
 /// Runs the program over the real files and standard output, and answers the exit status.
 fn status_of(rt: &HostRuntime) -> u8 {
     let alloc = rt.alloc();
-    let Ok(args) = env::args(rt) else {
-        return 10;
+    let args = match env::args(rt) {
+        Ok(args) => args,
+        Err(error) => return refusal_of(&error),
     };
     let Some(words) = words_of(alloc, args) else {
         return 1;
