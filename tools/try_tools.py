@@ -4,11 +4,12 @@
     tools/try_tools.py PROGRAM
 
 Solves the small market of examples/, compares the table that tools/report.py prints of it with the one below, reads the
-picture as XML, and holds the program to tools/reference.py over some hundred damaged inputs. Answers 1 where one of these
-fails. Python's standard library alone.
+picture as XML, holds the program to tools/reference.py over some hundred damaged inputs, and refuses some allocations of
+each command where there is a C compiler. Answers 1 where one of these fails. Python's standard library alone.
 """
 
 import os
+import shutil
 import subprocess
 import sys
 import tempfile
@@ -17,6 +18,7 @@ import xml.etree.ElementTree
 HERE = os.path.dirname(os.path.abspath(__file__))
 EXAMPLES = os.path.join(HERE, "..", "examples")
 INPUTS = 300
+REFUSALS = 40
 
 TABLE = """\
 3 assets, 0 numerals rounded, shift 0.000000000
@@ -44,14 +46,22 @@ def try_report(program, folder):
         sys.exit("tools/report.py draws no picture")
 
 
+def is_kept_without_memory(program, folder):
+    if shutil.which("cc") is None:
+        return True
+    refusing = [os.path.join(HERE, "refused_memory.py"), program, "--most", str(REFUSALS)]
+    return subprocess.run([sys.executable, *refusing], cwd=folder, timeout=600).returncode == 0
+
+
 def main():
     program = os.path.abspath(sys.argv[1])
     with tempfile.TemporaryDirectory() as folder:
         try_report(program, folder)
         fuzz = [os.path.join(HERE, "fuzz.py"), "--program", program, "--count", str(INPUTS), "--keep", folder]
         done = subprocess.run([sys.executable, *fuzz], cwd=folder, timeout=600)
-    print("tools: the report's table, its picture and the damaged inputs are as they should be" if done.returncode == 0 else "tools: failed")
-    sys.exit(done.returncode)
+        passed = done.returncode == 0 and is_kept_without_memory(program, folder)
+    print("tools: the report's table, its picture, the damaged inputs and the refusals are as they should be" if passed else "tools: failed")
+    sys.exit(0 if passed else 1)
 
 
 main()
