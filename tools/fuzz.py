@@ -28,7 +28,7 @@ HERE = os.path.dirname(os.path.abspath(__file__))
 PROGRAM = os.path.join(HERE, "..", "crates", "portgap", "out", "portgap")
 USAGE = (
     b"usage: portgap quick PORT HELD LOTS P Q NODES | solve PORT JOB CERT | check CERT | "
-    b"verify PORT JOB CERT | demo NUMBER N HELD LOTS NODES"
+    b"verify PORT JOB CERT | demo NUMBER N HELD LOTS NODES | upgrade CERT NEW"
 )
 
 

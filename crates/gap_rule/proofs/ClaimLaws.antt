@@ -19,7 +19,7 @@ use Rattle.gap_rule.specs.Certificates.{WasAccepted, IsOfFiles, difference_from}
 use Rattle.gap_rule.specs.Rules.{RulesClaim}
 use Rattle.gap_rule.specs.Steps.{IsLike, IsRuling}
 use Rattle.gap_rule.specs.declared.task.Task.{Task}
-use Rattle.gap_rule.specs.declared.task.Task.TheVariants.{Quick, Solve, Demo, Check, Verify}
+use Rattle.gap_rule.specs.declared.task.Task.TheVariants.{Quick, Solve, Demo, Check, Verify, Upgrade}
 
 abbrev side_told : VerdictValue → Side
 side_told v = side_of_certificate v.instance v.nodes v.sections
@@ -57,6 +57,7 @@ claim_only market job v (Ok (Quick work)) of ruled = absurd ruled
 claim_only market job v (Ok (Solve work)) of ruled = absurd ruled
 claim_only market job v (Ok (Demo work)) of ruled = absurd ruled
 claim_only market job v (Ok (Check w)) of ruled = absurd ruled
+claim_only market job v (Ok (Upgrade w)) of ruled = absurd ruled
 claim_only market job v (Err (Differs d)) of ruled = unlike_none market job v d of ruled
 claim_only market job v (Err Words) of ruled = ruled
 claim_only market job v (Err (Port f)) of ruled = ruled
@@ -70,6 +71,7 @@ differs_only market job v d (Ok (Quick work)) some ruled = ruled
 differs_only market job v d (Ok (Solve work)) some ruled = ruled
 differs_only market job v d (Ok (Demo work)) some ruled = ruled
 differs_only market job v d (Ok (Check w)) some ruled = ruled
+differs_only market job v d (Ok (Upgrade w)) some ruled = ruled
 differs_only market job v d (Err (Differs other)) some ruled = refl
 differs_only market job v d (Err Words) some ruled = absurd ruled
 differs_only market job v d (Err (Port f)) some ruled = absurd ruled

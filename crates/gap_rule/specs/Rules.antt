@@ -7,13 +7,13 @@ use Rattle.gap_gen.specs.Demo.{IsGenerated}
 use Rattle.gap_job.specs.Jobs.{job_in}
 use Rattle.gap_orlib.specs.Ports.{port}
 use Rattle.gap_valid.specs.Verdicts.{VerdictValue}
-use Rattle.gap_words.specs.Forms.{FormValue, faulty, quick, solve, check, verify, demo}
+use Rattle.gap_words.specs.Forms.{FormValue, faulty, quick, solve, check, verify, demo, upgrade}
 use Rattle.gap_words.specs.declared.form.DemoWords.{DemoWords}
 use Rattle.gap_words.specs.declared.form.QuickWords.{QuickWords}
 use Rattle.gap_words.specs.declared.refusal.Refusal.{Refusal}
 use Rattle.gap_words.specs.declared.refusal.Refusal.TheVariants.{Words, Port, Job as BadJob, HeldRange, Differs}
 use Rattle.gap_rule.specs.declared.task.Task.{Task}
-use Rattle.gap_rule.specs.declared.task.Task.TheVariants.{Quick, Solve, Demo, Check, Verify}
+use Rattle.gap_rule.specs.declared.task.Task.TheVariants.{Quick, Solve, Demo, Check, Verify, Upgrade}
 use Rattle.gap_rule.specs.Certificates.{RulesCertificate, IsOfFiles, difference_from}
 use Rattle.gap_rule.specs.Tasks.{quick_job, demo_job, work_of}
 
@@ -89,6 +89,7 @@ Rules (check cert) holds = GoesOn (RulesCertificate (holds cert)) (λ v r. r ≡
 Rules (verify port job cert) holds =
     After (market_ruling (holds port)) (λ market. RulesClaimed market (holds job) (holds cert))
 Rules (demo asked) holds = RulesDemo asked
+Rules (upgrade cert new) holds = GoesOn (RulesCertificate (holds cert)) (λ v r. r ≡ Ok (Upgrade v))
 
 -- the names behind a ruling, which are looked at only where it refused nothing
 abbrev pub behind : {A : Type 0} → Result A Refusal → (A → List (List ℕ)) → List (List ℕ)
@@ -105,3 +106,4 @@ looks (verify port job cert) holds =
     port ∷ behind (market_ruling (holds port))
     (λ market. job ∷ behind (job_ruling market.assets (holds job)) (λ asked. cert ∷ []))
 looks (demo asked) holds = []
+looks (upgrade cert new) holds = cert ∷ []

@@ -1,7 +1,7 @@
 -- What the steps of a ruling say. Own to portgap.
 use Rattle.std.specs.Prelude.{◌≡◌, ℕ, ◌≤◌, List, length, slice_get, Some, Result, Ok, Err}
 use Rattle.gap_files.specs.Outside.{FilesNow, NoneFell, SameEverywhere}
-use Rattle.gap_words.specs.Forms.{FormValue, faulty, quick, solve, check, verify, demo}
+use Rattle.gap_words.specs.Forms.{FormValue, faulty, quick, solve, check, verify, demo, upgrade}
 use Rattle.gap_words.specs.Names.{reads}
 use Rattle.gap_words.specs.Refusals.{refusal_status}
 use Rattle.gap_words.specs.declared.refusal.Refusal.{Refusal}
@@ -18,7 +18,7 @@ use Rattle.gap_head.specs.Said.{IsSaid}
 use Rattle.gap_instance.specs.Instances.{IsInstance}
 use Rattle.gap_valid.specs.Valid.{IsWeight}
 use Rattle.gap_rule.specs.Certificates.{WasAccepted}
-use Rattle.gap_rule.specs.declared.task.Task.TheVariants.{Quick, Solve, Demo, Check, Verify}
+use Rattle.gap_rule.specs.declared.task.Task.TheVariants.{Quick, Solve, Demo, Check, Verify, Upgrade}
 
 -- two rulings come to the same: to the same task, or to refusals with the same status
 abbrev pub IsLike : {T : Type 0} → Result T Refusal → Result T Refusal → Type 0
@@ -121,6 +121,7 @@ MayRefuse (verify port job cert) (Port fault) = Unit {0}
 MayRefuse (verify port job cert) (Job fault) = Unit {0}
 MayRefuse (verify port job cert) (Certificate fault) = Unit {0}
 MayRefuse (verify port job cert) (Differs difference) = Unit {0}
+MayRefuse (upgrade cert new) (Certificate fault) = Unit {0}
 MayRefuse _ _ = ⊥
 
 -- what is to be done can be: its instance is one, as a certificate's head says it, there are 1 to 101 weights in
@@ -143,8 +144,9 @@ CanBeDone (Solve work) = IsReady work
 CanBeDone (Demo work) = IsReady work
 CanBeDone (Check v) = WasAccepted v
 CanBeDone (Verify v) = WasAccepted v
+CanBeDone (Upgrade v) = WasAccepted v
 
--- a task of `quick`, of `solve`, of `demo`, of `check`, of `verify` that can be done
+-- a task of `quick`, of `solve`, of `demo`, of `check`, of `verify`, of `upgrade` that can be done
 abbrev pub IsQuick : Task → Type 0
 IsQuick (Quick work) = IsReady work
 IsQuick _ = ⊥
@@ -165,6 +167,10 @@ abbrev pub IsVerify : Task → Type 0
 IsVerify (Verify v) = WasAccepted v
 IsVerify _ = ⊥
 
+abbrev pub IsUpgrade : Task → Type 0
+IsUpgrade (Upgrade v) = WasAccepted v
+IsUpgrade _ = ⊥
+
 -- the tasks that a form may have
 abbrev pub MayDo : FormValue → Task → Type 0
 MayDo faulty = λ task. ⊥
@@ -173,6 +179,7 @@ MayDo (solve port job cert) = IsSolve
 MayDo (check cert) = IsCheck
 MayDo (verify port job cert) = IsVerify
 MayDo (demo asked) = IsDemo
+MayDo (upgrade cert new) = IsUpgrade
 
 -- what a ruling's answer says of the form, whatever its files hold
 abbrev pub FitsForm : FormValue → Result Task Halt → Type 0

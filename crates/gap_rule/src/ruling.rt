@@ -1,7 +1,7 @@
 //! The ruling: what the words and the files ask for, or why it is refused.
 ghost use Rattle.std.specs.Prelude.{◌≡◌, ◌≤◌, ℕ, List, [], ◌∷◌, IfOk, Ok, Err};
 ghost use Rattle.gap_job.specs.Ranges.{IsJob};
-ghost use Rattle.gap_words.specs.Forms.{AreInRange, IsDemoInRange, IsFormInRange, form_value, quick, solve, check, verify};
+ghost use Rattle.gap_words.specs.Forms.{AreInRange, IsDemoInRange, IsFormInRange, form_value, quick, solve, check, verify, upgrade};
 ghost use Rattle.gap_rule.specs.Tasks.{quick_job, quarters, demo_job, work_of};
 ghost use Rattle.gap_rule.specs.Certificates.{WasAccepted};
 ghost use Rattle.gap_rule.specs.Rules.{RulesJob, RulesClaim, RulesPair, RulesClaimed, RulesDemo, job_ruling, behind, quick_ruling};
@@ -202,6 +202,17 @@ fn rule_check<F: Files>(alloc: Global, cert: &str, files: &mut F) -> Result<Task
     }
 }
 
+/// The ruling of `upgrade`: its certificate is read a first time.
+fn rule_upgrade<F: Files>(alloc: Global, cert: &str, files: &mut F) -> Result<Task, Halt>
+    ensures ruled { (new : List ℕ) → IsRuledForm (upgrade cert.now new) (F.files files.old) (F.files files.new) result }
+    ensures fits { (new : List ℕ) → FitsForm (upgrade cert.now new) result }
+{
+    match read_certificate(alloc, files, cert) {
+        Ok(verdict) => Ok(Task::Upgrade(verdict)),
+        Err(halt) => Err(halt),
+    }
+}
+
 /// The ruling of `verify` over its market, its job and its verdict.
 fn rule_claim(market: &Market, job: &Job, verdict: Verdict) -> Result<Task, Halt>
     requires job_is { IsJob market.now.assets job.now }
@@ -292,5 +303,6 @@ pub fn rule<F: Files>(alloc: Global, form: Form<'_>, files: &mut F) -> Result<Ta
         Form::Check(cert) => rule_check(alloc, cert, files),
         Form::Verify { port, job, cert } => rule_verify(alloc, port, job, cert, files),
         Form::Demo(asked) => rule_demo(alloc, asked),
+        Form::Upgrade { cert, .. } => rule_upgrade(alloc, cert, files),
     }
 }

@@ -17,6 +17,8 @@ pub enum Task {
     Check(Verdict),
     /// To tell what a certificate of the market and the job says.
     Verify(Verdict),
+    /// To write a certificate anew, which says this, in version 2.
+    Upgrade(Verdict),
 }
 
 /// The weights that are to be answered for an instance, as the head of a certificate says it: how many numerals of its

@@ -3,3 +3,4 @@ pub mod AnswerLaws
 pub mod CompleteLaws
 pub mod RightLaws
 pub mod TellLaws
+pub mod RenewLaws

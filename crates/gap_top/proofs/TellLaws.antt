@@ -16,16 +16,17 @@ use Rattle.gap_model.specs.Outcomes.{IsToldRight}
 use Rattle.gap_orlib.specs.Ports.{port as market_in}
 use Rattle.gap_orlib.specs.declared.fault.PortFault.{PortFault}
 use Rattle.gap_valid.specs.Verdicts.{VerdictValue}
-use Rattle.gap_words.specs.Forms.{check, verify}
+use Rattle.gap_words.specs.Forms.{check, verify, upgrade}
 use Rattle.gap_words.specs.declared.refusal.Refusal.{Refusal}
 use Rattle.gap_words.specs.declared.refusal.Refusal.TheVariants.{Port, Job as BadJob}
 use Rattle.gap_rule.specs.Certificates.{WasAccepted, RulesCertificate, IsOfFiles}
 use Rattle.gap_rule.specs.Rules.{Rules, After, GoesOn, RulesClaim, RulesPair, RulesClaimed, refused_as}
 use Rattle.gap_rule.specs.Steps.{CanBeDone}
 use Rattle.gap_rule.specs.declared.task.Task.{Task}
-use Rattle.gap_rule.specs.declared.task.Task.TheVariants.{Check, Verify}
+use Rattle.gap_rule.specs.declared.task.Task.TheVariants.{Check, Verify, Upgrade}
 use Rattle.gap_top.specs.Printing.{Prints}
-use Rattle.gap_top.specs.Telling.{verdict_report, Tells, IsChecked, IsVerified}
+use Rattle.gap_tell.specs.Telling.{verdict_report}
+use Rattle.gap_top.specs.Telling.{Tells, IsChecked, IsVerified}
 use Rattle.gap_top.specs.Working.{Does}
 use Rattle.gap_top.specs.declared.stop.Stop.{Stop}
 
@@ -34,11 +35,11 @@ pub tells : (v : VerdictValue) (f : FilesNow) (s t : SinkNow) (r : Result (Unit 
 tells v f s t r was printed = record { printed = printed; right = bounds was.bytes v was.accepted; files = refl }
 
 -- the tasks that tell a verdict
-pub does_check : (task : Task) (name : List ℕ) (v : VerdictValue) (f : FilesNow) (s t : SinkNow) (r : Result (Unit {0}) Stop) → task ≡ Check v → CanBeDone task → Prints (verdict_report v) s t r → Does task name f s f t r
-does_check task name v f s t r is can printed = subst (λ (x : Task). Does x name f s f t r) (sym is) (tells v f s t r (subst CanBeDone is can) printed)
+pub does_check : (task : Task) (source name : List ℕ) (v : VerdictValue) (f : FilesNow) (s t : SinkNow) (r : Result (Unit {0}) Stop) → task ≡ Check v → CanBeDone task → Prints (verdict_report v) s t r → Does task source name f s f t r
+does_check task source name v f s t r is can printed = subst (λ (x : Task). Does x source name f s f t r) (sym is) (tells v f s t r (subst CanBeDone is can) printed)
 
-pub does_verify : (task : Task) (name : List ℕ) (v : VerdictValue) (f : FilesNow) (s t : SinkNow) (r : Result (Unit {0}) Stop) → task ≡ Verify v → CanBeDone task → Prints (verdict_report v) s t r → Does task name f s f t r
-does_verify task name v f s t r is can printed = subst (λ (x : Task). Does x name f s f t r) (sym is) (tells v f s t r (subst CanBeDone is can) printed)
+pub does_verify : (task : Task) (source name : List ℕ) (v : VerdictValue) (f : FilesNow) (s t : SinkNow) (r : Result (Unit {0}) Stop) → task ≡ Verify v → CanBeDone task → Prints (verdict_report v) s t r → Does task source name f s f t r
+does_verify task source name v f s t r is can printed = subst (λ (x : Task). Does x source name f s f t r) (sym is) (tells v f s t r (subst CanBeDone is can) printed)
 
 -- ---- a certificate alone
 
@@ -53,6 +54,20 @@ pub checked : (cert : List ℕ) (holds : List ℕ → List ℕ) (v : VerdictValu
 checked cert holds v rules =
     let accepted = checked_by (holds cert) v rules.found rules.holds rules.after in
     record { accepted = accepted; right = bounds (holds cert) v accepted }
+
+-- the task of `upgrade` is to write a certificate anew
+task_by : (bytes : List ℕ) (task : Task) (found : Result VerdictValue Refusal) → RulesCertificate bytes found → After found (λ w r. r ≡ Ok (Upgrade w)) (Ok task) → (v : VerdictValue) × (task ≡ Upgrade v)
+task_by bytes task (Ok w) accepted after = (w, same_task task (Upgrade w) after)
+  where
+    same_task : (a b : Task) → ◌≡◌ {A = Result Task Refusal} (Ok a) (Ok b) → a ≡ b
+    same_task a b e = cc
+task_by bytes task (Err why) accepted after = absurd (cc)
+
+pub upgraded_task : (cert new : List ℕ) (holds : List ℕ → List ℕ) (task : Task) → Rules (upgrade cert new) holds (Ok task) → (v : VerdictValue) × (task ≡ Upgrade v)
+upgraded_task cert new holds task rules = task_by (holds cert) task rules.found rules.holds rules.after
+
+pub checked_upgrade : (cert new : List ℕ) (holds : List ℕ → List ℕ) (v : VerdictValue) → Rules (upgrade cert new) holds (Ok (Upgrade v)) → IsChecked (holds cert) v
+checked_upgrade cert new holds v rules = let accepted = upgraded cert new holds v rules in record { accepted = accepted; right = bounds (holds cert) v accepted }
 
 -- ---- a certificate of a market and a job
 

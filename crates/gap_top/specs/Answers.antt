@@ -10,7 +10,7 @@ use Rattle.gap_rule.specs.Rules.{Rules, looks}
 use Rattle.gap_rule.specs.declared.task.Task.{Task}
 use Rattle.gap_top.specs.Printing.{WritesLine, WritesNothing}
 use Rattle.gap_top.specs.Statuses.{IsOneOf, IsStatusOf, Allows}
-use Rattle.gap_top.specs.Working.{cert_in, Performs}
+use Rattle.gap_top.specs.Working.{cert_in, source_in, Performs}
 
 -- the count of write faults of one of these names rose
 abbrev pub FailedIn : List (List ℕ) → FilesNow → FilesNow → Type 0
@@ -24,9 +24,9 @@ ReportsRefusal why s t status =
 
 -- what came of a ruling: a task was done or stopped on the way, its certificate going into this file; a refusal was
 -- answered, and every content stays
-abbrev pub Comes : Result Task Refusal → List ℕ → FilesNow → SinkNow → FilesNow → SinkNow → ℕ → Type 0
-Comes (Ok task) name f s g t status = Performs task name f s g t status
-Comes (Err why) name f s g t status = ReportsRefusal why s t status × SameEverywhere f.content g.content
+abbrev pub Comes : Result Task Refusal → (source name : List ℕ) → FilesNow → SinkNow → FilesNow → SinkNow → ℕ → Type 0
+Comes (Ok task) source name f s g t status = Performs task source name f s g t status
+Comes (Err why) source name f s g t status = ReportsRefusal why s t status × SameEverywhere f.content g.content
 
 -- memory or a read fault stopped a run before it was ruled: nothing was written, and every content stays
 pub record IsUnruled (f : FilesNow) (s : SinkNow) (g : FilesNow) (t : SinkNow) (status : ℕ) : Type 0 where
@@ -39,7 +39,7 @@ pub record IsSettled (asked : FormValue) (holds : List ℕ → List ℕ) (f : Fi
     (t : SinkNow) (status : ℕ) : Type 0 where
   pub ruling : Result Task Refusal
   pub rules : Rules asked holds ruling
-  pub comes : Comes ruling (cert_in asked) f s g t status
+  pub comes : Comes ruling (source_in asked) (cert_in asked) f s g t status
 
 -- words of this form were answered by a status; f and s are what the files and the sink tell before, g and t after
 pub record Answers (asked : FormValue) (f : FilesNow) (s : SinkNow) (g : FilesNow) (t : SinkNow) (status : ℕ) : Type 0 where

@@ -1,6 +1,6 @@
 -- The exit statuses. Own to portgap.
 use Rattle.std.specs.Prelude.{◌≡◌, ℕ, ◌⊎◌, List, [], ◌∷◌, Result, Ok, Err}
-use Rattle.gap_words.specs.Forms.{FormValue, faulty, quick, solve, check, verify, demo}
+use Rattle.gap_words.specs.Forms.{FormValue, faulty, quick, solve, check, verify, demo, upgrade}
 use Rattle.gap_words.specs.Refusals.{refusal_status}
 use Rattle.gap_words.specs.declared.refusal.Refusal.{Refusal}
 use Rattle.gap_rule.specs.declared.task.Task.{Task}
@@ -28,6 +28,7 @@ IsStatusOf (solve port job cert) n = IsOneOf (0 ∷ 1 ∷ 3 ∷ 4 ∷ 5 ∷ 6 �
 IsStatusOf (check cert) n = IsOneOf (0 ∷ 1 ∷ 3 ∷ 4 ∷ 7 ∷ []) n
 IsStatusOf (verify port job cert) n = IsOneOf (0 ∷ 1 ∷ 3 ∷ 4 ∷ 5 ∷ 6 ∷ 7 ∷ 8 ∷ []) n
 IsStatusOf (demo asked) n = IsOneOf (0 ∷ 1 ∷ 4 ∷ []) n
+IsStatusOf (upgrade cert new) n = IsOneOf (0 ∷ 1 ∷ 3 ∷ 4 ∷ 7 ∷ []) n
 
 -- the statuses that a ruling allows: a task is done, or stops for memory or a fault; a refusal has its own, unless memory
 -- or a read fault comes before it

@@ -1,5 +1,5 @@
 -- What is printed of a certificate that was accepted. Own to portgap.
-use Rattle.std.specs.Prelude.{◌≡◌, ℕ, List, [], ◌∷◌, ◌++◌, codes, All, Result, Ok}
+use Rattle.std.specs.Prelude.{◌≡◌, ℕ, List, All, Result, Ok}
 use Rattle.gap_base.specs.declared.job.Job.{Job}
 use Rattle.gap_base.specs.Markets.{MarketValue}
 use Rattle.gap_check.specs.Accepting.{Accepted}
@@ -8,21 +8,12 @@ use Rattle.gap_instance.specs.Instances.{instance_of}
 use Rattle.gap_job.specs.Jobs.{job_in}
 use Rattle.gap_model.specs.declared.outcome.Told.{Told}
 use Rattle.gap_model.specs.Outcomes.{IsToldRight}
-use Rattle.gap_report.specs.Report.{verdict_line}
 use Rattle.gap_orlib.specs.Ports.{port}
 use Rattle.gap_rule.specs.Certificates.{IsOfFiles}
+use Rattle.gap_tell.specs.Telling.{verdict_report}
 use Rattle.gap_valid.specs.Verdicts.{VerdictValue}
 use Rattle.gap_top.specs.Printing.{Prints}
 use Rattle.gap_top.specs.declared.stop.Stop.{Stop}
-
--- the lines of what is told of weights one after another, for a budget of this many lots
-unfoldable pub verdict_lines : ℕ → List Told → List ℕ
-verdict_lines lots [] = []
-verdict_lines lots (told ∷ more) = verdict_line lots told ++ verdict_lines lots more
-
--- the report of a verdict: the line of each weight in order, and then `yes`
-abbrev pub verdict_report : VerdictValue → List ℕ
-verdict_report v = verdict_lines v.instance.lots v.sections ++ codes "yes\n"
 
 -- a verdict was told, from the files f and the sink s to g and t: its report was written, or a front of it where that
 -- stopped; what it tells of each weight is right for its instance; and the files stay

@@ -1,5 +1,5 @@
 //! What follows from the contract of `run`, as contracts. Nothing is computed here.
-ghost use Rattle.std.specs.Prelude.{◌≡◌, ℕ, ◌⊎◌, List, All, Ok, Err};
+ghost use Rattle.std.specs.Prelude.{◌≡◌, ◌≢◌, ℕ, ◌⊎◌, List, [], ◌∷◌, All, Ok, Err};
 ghost use Rattle.gap_base.specs.Markets.{MarketValue};
 ghost use Rattle.gap_base.specs.declared.job.Job.{Job};
 ghost use Rattle.gap_instance.specs.Instances.{instance_of};
@@ -11,7 +11,7 @@ ghost use Rattle.gap_sweep.specs.Runs.{HasDone};
 ghost use Rattle.gap_sweep.specs.declared.style.Style.{Style};
 ghost use Rattle.gap_top.specs.Working.{asked_for, told_of};
 ghost use Rattle.gap_files.specs.Outside.{FilesNow, SinkNow, Rose};
-ghost use Rattle.gap_words.specs.Forms.{FormValue, check, verify};
+ghost use Rattle.gap_words.specs.Forms.{FormValue, check, verify, upgrade};
 ghost use Rattle.gap_words.specs.Names.{reads, writes};
 ghost use Rattle.gap_words.specs.Refusals.{refusal_status};
 ghost use Rattle.gap_words.specs.declared.refusal.Refusal.{Refusal};
@@ -20,6 +20,10 @@ ghost use Rattle.gap_rule.specs.Rules.{Rules};
 ghost use Rattle.gap_rule.specs.declared.task.Task.{Task};
 ghost use Rattle.gap_top.specs.Answers.{Answers, FailedIn};
 ghost use Rattle.gap_top.specs.Telling.{IsChecked, IsVerified};
+ghost use Rattle.gap_check.specs.Accepting.{Accepted};
+ghost use Rattle.gap_top.specs.Renewing.{LeavesFront};
+ghost use Rattle.gap_trace.specs.Marks.{stream};
+ghost use Rattle.gap_upgrade.specs.Upgrading.{HoldsUpgrade};
 ghost use Rattle.gap_valid.specs.Verdicts.{VerdictValue};
 
 /// Completeness: where the contents of the files are told and no count rose, a task is done or memory was wanted, and a
@@ -55,4 +59,18 @@ pub fn verdicts_are_right()
         → Rules (check cert) holds (Ok (Task.Check v)) → IsChecked (holds cert) v }
     ensures verify { (port job cert : List ℕ) (holds : List ℕ → List ℕ) (v : VerdictValue)
         → Rules (verify port job cert) holds (Ok (Task.Verify v)) → IsVerified (holds port) (holds job) (holds cert) v }
+    ensures upgrade { (cert new : List ℕ) (holds : List ℕ → List ℕ) (v : VerdictValue)
+        → Rules (upgrade cert new) holds (Ok (Task.Upgrade v)) → IsChecked (holds cert) v }
+{}
+
+/// Where `upgrade` ended with 0 and the contents of both files are told, NEW holds the encoding in version 2 of the
+/// certificate that CERT encodes; where it ended otherwise, and CERT encodes one, NEW holds what it held, or nothing, or a
+/// proper front of that.
+pub fn upgrades_are_right()
+    ensures whole { (cert new : List ℕ) (f : FilesNow) (s : SinkNow) (g : FilesNow) (t : SinkNow) (v : VerdictValue)
+        → Answers (upgrade cert new) f s g t 0 → new ≢ cert → AreTold (cert ∷ new ∷ []) f
+        → (a : Accepted (held f cert) v) → HoldsUpgrade a.certificate (stream new g) }
+    ensures front { (cert new : List ℕ) (f : FilesNow) (s : SinkNow) (g : FilesNow) (t : SinkNow) (v : VerdictValue)
+        (status : ℕ) → Answers (upgrade cert new) f s g t status → status ≢ 0 → new ≢ cert → AreTold (cert ∷ new ∷ []) f
+        → (a : Accepted (held f cert) v) → LeavesFront a.certificate (stream new f) (stream new g) }
 {}

@@ -32,22 +32,27 @@ fn words_decide_before_any_read(rt: HostRuntime) -> Result<(), Fail> {
         (
             "solve PORT JOB JOB",
             2,
-            "usage: portgap quick PORT HELD LOTS P Q NODES | solve PORT JOB CERT | check CERT | verify PORT JOB CERT | demo NUMBER N HELD LOTS NODES\n",
+            "usage: portgap quick PORT HELD LOTS P Q NODES | solve PORT JOB CERT | check CERT | verify PORT JOB CERT | demo NUMBER N HELD LOTS NODES | upgrade CERT NEW\n",
+        ),
+        (
+            "upgrade CERT CERT",
+            2,
+            "usage: portgap quick PORT HELD LOTS P Q NODES | solve PORT JOB CERT | check CERT | verify PORT JOB CERT | demo NUMBER N HELD LOTS NODES | upgrade CERT NEW\n",
         ),
         (
             "quick PORT 2 10 2 1 0",
             2,
-            "usage: portgap quick PORT HELD LOTS P Q NODES | solve PORT JOB CERT | check CERT | verify PORT JOB CERT | demo NUMBER N HELD LOTS NODES\n",
+            "usage: portgap quick PORT HELD LOTS P Q NODES | solve PORT JOB CERT | check CERT | verify PORT JOB CERT | demo NUMBER N HELD LOTS NODES | upgrade CERT NEW\n",
         ),
         (
             "quick PORT 2-1 10 1 1 0",
             2,
-            "usage: portgap quick PORT HELD LOTS P Q NODES | solve PORT JOB CERT | check CERT | verify PORT JOB CERT | demo NUMBER N HELD LOTS NODES\n",
+            "usage: portgap quick PORT HELD LOTS P Q NODES | solve PORT JOB CERT | check CERT | verify PORT JOB CERT | demo NUMBER N HELD LOTS NODES | upgrade CERT NEW\n",
         ),
         (
             "--help",
             2,
-            "usage: portgap quick PORT HELD LOTS P Q NODES | solve PORT JOB CERT | check CERT | verify PORT JOB CERT | demo NUMBER N HELD LOTS NODES\n",
+            "usage: portgap quick PORT HELD LOTS P Q NODES | solve PORT JOB CERT | check CERT | verify PORT JOB CERT | demo NUMBER N HELD LOTS NODES | upgrade CERT NEW\n",
         ),
     ];
     for (line, status, text) in rows {
@@ -425,6 +430,95 @@ fn verify_compares_a_certificate(rt: HostRuntime) -> Result<(), Fail> {
     let (found, sink) = told(alloc, &mut files, "verify PORT JOB CERT")?;
     assert_eq!(rt; found, 5, "a port file comes first");
     assert_eq!(rt; sink.bytes(), b"port Count 0\n".as_slice());
+    Ok(())
+}
+
+/// The same certificate in version 1: without the greatest number held, at 14, and the number of entries, at 113.
+fn version_one(alloc: Global, two: &[u8]) -> Result<Vec<u8>, Fail> {
+    let mut one = Vec::new(alloc);
+    let mut place = 0u32;
+    for byte in two {
+        match place {
+            7 => one.push(b'1')?,
+            14 | 15 | 113 | 114 => {}
+            _ => one.push(*byte)?,
+        }
+        place = place.saturating_add(1);
+    }
+    Ok(one)
+}
+
+#[test]
+fn upgrade_writes_version_two(rt: HostRuntime) -> Result<(), Fail> {
+    let alloc = rt.alloc();
+    let (_, _, mut files) = solved(alloc, A, JOB)?;
+    let two = certificate(alloc, &files)?;
+    let mut one = version_one(alloc, &two)?;
+    assert_eq!(rt; one.len(), 187);
+    files.put("ONE", one.as_slice())?;
+    for (line, name) in [("upgrade ONE NEW", "NEW"), ("upgrade NEW AGAIN", "AGAIN")] {
+        let (found, sink) = told(alloc, &mut files, line)?;
+        assert_eq!(rt; found, 0, "{line}");
+        assert_eq!(rt; sink.bytes(), VERDICT.as_bytes(), "{line}");
+        let text = hexadecimal(alloc, files.content(name).unwrap_or(b"".as_slice()))?;
+        assert_eq!(rt; text.as_str(), CERTIFICATE, "{line}");
+    }
+    if let Some(byte) = one.get_mut(7) {
+        *byte = b'2';
+    }
+    files.put("MIXED", one.as_slice())?;
+    let rows = [
+        ("upgrade MIXED NEW", 7, "certificate Range 14\n"),
+        ("check MIXED", 7, "certificate Range 14\n"),
+        ("upgrade PORT NEW", 7, "certificate Magic 0\n"),
+    ];
+    for (line, status, text) in rows {
+        let (found, sink) = told(alloc, &mut files, line)?;
+        assert_eq!(rt; found, status, "{line}");
+        assert_eq!(rt; sink.bytes(), text.as_bytes(), "{line}");
+    }
+    let text = hexadecimal(alloc, files.content("NEW").unwrap_or(b"".as_slice()))?;
+    assert_eq!(rt;
+        text.as_str(),
+        CERTIFICATE,
+        "a refusal leaves NEW as it was"
+    );
+    Ok(())
+}
+
+#[test]
+fn upgrade_meets_faults_of_the_outside(rt: HostRuntime) -> Result<(), Fail> {
+    let alloc = rt.alloc();
+    let words = words_of(alloc, "upgrade ONE NEW")?;
+    let (_, _, solved) = solved(alloc, A, JOB)?;
+    let one = version_one(alloc, &certificate(alloc, &solved)?)?;
+    // two reads, the start, a read and what it gives appended, the read of the end, and the end mark
+    let rows = [
+        (1u64, 3),
+        (2, 3),
+        (3, 4),
+        (4, 3),
+        (5, 4),
+        (6, 3),
+        (7, 4),
+        (8, 0),
+    ];
+    for (k, due) in rows {
+        let mut files = MemoryFiles::new(alloc, vec![in alloc; k]?);
+        files.put("ONE", one.as_slice())?;
+        let mut sink = MemorySink::new(alloc, Vec::new(alloc));
+        assert_eq!(rt; run(alloc, &words, &mut files, &mut sink), due, "call {k}");
+        let bytes = files.content("NEW").unwrap_or(b"".as_slice());
+        let text = hexadecimal(alloc, bytes)?;
+        assert_eq!(rt; bytes.len() == 191, due == 0, "call {k}");
+        assert!(rt; CERTIFICATE.starts_with(text.as_str()), "call {k}");
+    }
+    let mut files = SteadyFiles::new(alloc);
+    files.put("ONE", one.as_slice())?;
+    let mut broken = MemorySink::new(alloc, vec![in alloc; 1u64]?);
+    assert_eq!(rt; run(alloc, &words, &mut files, &mut broken), 4, "the write");
+    let bytes = files.content("NEW").unwrap_or(b"".as_slice());
+    assert_eq!(rt; bytes.len(), 187, "the end mark is missing");
     Ok(())
 }
 

@@ -5,7 +5,7 @@ use Rattle.std.specs.Str.{bytes_eq}
 use Rattle.gap_words.specs.Numbers.{number, number_in, held_in}
 use Rattle.gap_words.specs.declared.form.DemoWords.{DemoWords}
 use Rattle.gap_words.specs.declared.form.Form.{Form}
-use Rattle.gap_words.specs.declared.form.Form.TheVariants.{Faulty, Quick, Solve, Check, Verify, Demo}
+use Rattle.gap_words.specs.declared.form.Form.TheVariants.{Faulty, Quick, Solve, Check, Verify, Demo, Upgrade}
 use Rattle.gap_words.specs.declared.form.QuickWords.{QuickWords}
 
 -- what words ask for: the form of no command, or a command with the names of its files and its values
@@ -16,6 +16,7 @@ pub data FormValue : Type 0 where
   check : (cert : List ℕ) → FormValue
   verify : (port job cert : List ℕ) → FormValue
   demo : DemoWords → FormValue
+  upgrade : (cert new : List ℕ) → FormValue
 
 -- what contracts see of a form
 abbrev pub form_value : Form → FormValue
@@ -25,6 +26,7 @@ form_value (Solve port job cert) = solve port.now job.now cert.now
 form_value (Check cert) = check cert.now
 form_value (Verify port job cert) = verify port.now job.now cert.now
 form_value (Demo asked) = demo asked
+form_value (Upgrade cert new) = upgrade cert.now new.now
 
 -- the word at a place, counted from 0; no bytes where there is none
 abbrev pub word_at : List (List ℕ) → ℕ → List ℕ
@@ -67,6 +69,12 @@ are_files words =
     nat_eq (length words) 4 && is_name (word_at words 1) && is_name (word_at words 2) && is_name (word_at words 3)
     && not (bytes_eq (word_at words 3) (word_at words 1)) && not (bytes_eq (word_at words 3) (word_at words 2))
 
+-- are the words behind the first the names CERT NEW, with NEW spelled unlike CERT?
+unfoldable pub are_two : List (List ℕ) → Bool
+are_two words =
+    nat_eq (length words) 3 && is_name (word_at words 1) && is_name (word_at words 2)
+    && not (bytes_eq (word_at words 2) (word_at words 1))
+
 -- what is asked for by values, where there are some
 abbrev pub with_values : {T : Type 0} → (T → FormValue) → Option T → FormValue
 with_values command None = faulty
@@ -84,6 +92,10 @@ demo_form words = with_values demo (demo_of words)
 unfoldable pub check_form : List (List ℕ) → FormValue
 check_form words = if nat_eq (length words) 2 && is_name (word_at words 1) then check (word_at words 1) else faulty
 
+-- what the words of `upgrade` ask for
+unfoldable pub upgrade_form : List (List ℕ) → FormValue
+upgrade_form words = if are_two words then upgrade (word_at words 1) (word_at words 2) else faulty
+
 -- what the words of a command over PORT JOB CERT ask for
 unfoldable pub files_form : (List ℕ → List ℕ → List ℕ → FormValue) → List (List ℕ) → FormValue
 files_form command words = if are_files words then command (word_at words 1) (word_at words 2) (word_at words 3) else faulty
@@ -95,7 +107,8 @@ form words =
     else (if bytes_eq (word_at words 0) (codes "solve") then files_form solve words
     else (if bytes_eq (word_at words 0) (codes "check") then check_form words
     else (if bytes_eq (word_at words 0) (codes "verify") then files_form verify words
-    else (if bytes_eq (word_at words 0) (codes "demo") then demo_form words else faulty))))
+    else (if bytes_eq (word_at words 0) (codes "demo") then demo_form words
+    else (if bytes_eq (word_at words 0) (codes "upgrade") then upgrade_form words else faulty)))))
 
 -- the values of `quick` are in their ranges. Source: the limits of the model
 pub record AreInRange (asked : QuickWords) : Type 0 where
@@ -132,3 +145,4 @@ IsFormInRange (solve port job cert) = IsApart port job cert
 IsFormInRange (check cert) = Unit {0}
 IsFormInRange (verify port job cert) = IsApart port job cert
 IsFormInRange (demo asked) = IsDemoInRange asked
+IsFormInRange (upgrade cert new) = new ≢ cert

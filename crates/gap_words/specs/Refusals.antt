@@ -8,8 +8,7 @@ use Rattle.gap_words.specs.declared.refusal.Refusal.TheVariants.{Words, Port, Jo
 
 -- the usage line, with every command
 abbrev pub usage_line : List ℕ
-usage_line =
-    codes "usage: portgap quick PORT HELD LOTS P Q NODES | solve PORT JOB CERT | check CERT | verify PORT JOB CERT | demo NUMBER N HELD LOTS NODES\n"
+usage_line = codes "usage: portgap quick PORT HELD LOTS P Q NODES | solve PORT JOB CERT | check CERT | verify PORT JOB CERT | demo NUMBER N HELD LOTS NODES | upgrade CERT NEW\n"
 
 -- the line of a refusal
 abbrev pub refusal_line : Refusal → List ℕ

@@ -1,7 +1,7 @@
 //! The form of the words after the program's name.
 ghost use Rattle.std.specs.Prelude.{◌≡◌, IfSome, map};
 ghost use Rattle.std.specs.String.{string_bytes};
-ghost use Rattle.gap_words.specs.Forms.{solve, verify, files_form, word_at, quick_of, demo_of, are_files, quick_form, demo_form, check_form, form, form_value, AreInRange, IsDemoInRange, IsFormInRange};
+ghost use Rattle.gap_words.specs.Forms.{solve, verify, files_form, word_at, quick_of, demo_of, are_files, are_two, quick_form, demo_form, check_form, upgrade_form, form, form_value, AreInRange, IsDemoInRange, IsFormInRange};
 
 use crate::number::{Held, held_within, number_of, number_within};
 use gap_base::Weight;
@@ -29,6 +29,11 @@ pub enum Form<'a> {
     },
     /// Those of `demo`.
     Demo(DemoWords),
+    /// Those of `upgrade`.
+    Upgrade {
+        cert: &'a str,
+        new: &'a str,
+    },
 }
 
 /// The values of the words HELD LOTS P Q NODES of `quick`.
@@ -81,7 +86,10 @@ pub fn form_of(words: &[String]) -> Form<'_>
         return verify_form(words);
     }
     if command == "demo" {
-        demo_form(words)
+        return demo_form(words);
+    }
+    if command == "upgrade" {
+        upgrade_form(words)
     } else {
         Form::Faulty
     }
@@ -174,6 +182,32 @@ fn check_form(words: &[String]) -> Form<'_>
         Form::Check(word(words, 1))
     } else {
         Form::Faulty
+    }
+}
+
+/// Whether the words behind the first are the names CERT NEW, with NEW spelled unlike CERT.
+#[tactic(auto, unfolding(crate::specs::Forms::are_two))]
+fn are_two(words: &[String]) -> bool
+    ensures { result ≡ are_two (map string_bytes words.now) }
+{
+    words.len() == 3
+        && !word(words, 1).is_empty()
+        && !word(words, 2).is_empty()
+        && word(words, 2) != word(words, 1)
+}
+
+/// What the words of `upgrade` ask for.
+#[tactic(auto, unfolding(crate::specs::Forms::upgrade_form, crate::specs::Forms::are_two))]
+fn upgrade_form(words: &[String]) -> Form<'_>
+    ensures form { form_value result ≡ upgrade_form (map string_bytes words.now) }
+    ensures ranges { IsFormInRange (form_value result) }
+{
+    if !are_two(words) {
+        return Form::Faulty;
+    }
+    Form::Upgrade {
+        cert: word(words, 1),
+        new: word(words, 2),
     }
 }
 

@@ -38,7 +38,7 @@ impl Refusal {
         match self {
             Refusal::Words => Ok(String::from_str(
                 alloc,
-                "usage: portgap quick PORT HELD LOTS P Q NODES | solve PORT JOB CERT | check CERT | verify PORT JOB CERT | demo NUMBER N HELD LOTS NODES\n",
+                "usage: portgap quick PORT HELD LOTS P Q NODES | solve PORT JOB CERT | check CERT | verify PORT JOB CERT | demo NUMBER N HELD LOTS NODES | upgrade CERT NEW\n",
             )?),
             Refusal::Port(fault) => port_line(alloc, fault),
             Refusal::Job(fault) => job_line(alloc, fault),

@@ -85,6 +85,10 @@ fn reads_the_words_of_the_other_commands(rt: HostRuntime) -> Result<(), Fail> {
         job: "P",
         cert: "C",
     };
+    let upgrade = Form::Upgrade {
+        cert: "C",
+        new: "N",
+    };
     let rows = [
         ("solve P J C", solve),
         ("solve P J P", Form::Faulty),
@@ -105,6 +109,11 @@ fn reads_the_words_of_the_other_commands(rt: HostRuntime) -> Result<(), Fail> {
         ("demo 7 31 1-2 100 20", Form::Faulty),
         ("demo 7 1 1 100 20", Form::Faulty),
         ("demo 7 31 10 100", Form::Faulty),
+        ("upgrade C N", upgrade),
+        ("upgrade C C", Form::Faulty),
+        ("upgrade C", Form::Faulty),
+        ("upgrade C N N", Form::Faulty),
+        ("upgrade C ", Form::Faulty),
     ];
     for (line, form) in rows {
         let words = words_of(alloc, line)?;
@@ -209,7 +218,7 @@ fn says_why_nothing_was_done(rt: HostRuntime) -> Result<(), Fail> {
         (
             Refusal::Words,
             2,
-            "usage: portgap quick PORT HELD LOTS P Q NODES | solve PORT JOB CERT | check CERT | verify PORT JOB CERT | demo NUMBER N HELD LOTS NODES\n",
+            "usage: portgap quick PORT HELD LOTS P Q NODES | solve PORT JOB CERT | check CERT | verify PORT JOB CERT | demo NUMBER N HELD LOTS NODES | upgrade CERT NEW\n",
         ),
         (
             Refusal::Port(PortFault {

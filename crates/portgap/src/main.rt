@@ -32,7 +32,7 @@ fn meaning(status: u8) -> Option<&'static str> {
     match status {
         1 => Some("portgap: memory was refused"),
         3 => Some("portgap: PORT, JOB or CERT couldn't be read"),
-        4 => Some("portgap: CERT or standard output couldn't be written"),
+        4 => Some("portgap: CERT, NEW or standard output couldn't be written"),
         10 => Some("portgap: the words aren't UTF-8"),
         _ => None,
     }

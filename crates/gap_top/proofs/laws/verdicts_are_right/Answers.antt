@@ -1,4 +1,4 @@
-use Rattle.gap_top.proofs.TellLaws.{checked, verified}
+use Rattle.gap_top.proofs.TellLaws.{checked, checked_upgrade, verified}
 use Rattle.gap_top.proofs.laws.verdicts_are_right.Goals as goal
 
 pub returns-clause-check : goal.returns-clause-check
@@ -6,3 +6,6 @@ returns-clause-check c = checked
 
 pub returns-clause-verify : goal.returns-clause-verify
 returns-clause-verify c = verified
+
+pub returns-clause-upgrade : goal.returns-clause-upgrade
+returns-clause-upgrade c = checked_upgrade
