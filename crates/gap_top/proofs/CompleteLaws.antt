@@ -1,5 +1,5 @@
 -- Completeness, from the contract of `run`.
-use Rattle.std.proofs.Common.{◌≡◌, ℕ, ◌⊎◌, inl, inr, [], ◌∷◌, Result, Ok, Err}
+use Rattle.std.proofs.Common.{◌≡◌, ℕ, ◌⊎◌, inl, inr, Ok, Err}
 use Rattle.gap_files.specs.Outside.{FilesNow, SinkNow, Rose}
 use Rattle.gap_words.specs.Forms.{FormValue}
 use Rattle.gap_words.specs.Names.{reads, writes}

@@ -4,11 +4,9 @@ use Rattle.std.specs.Option.{option_map}
 use Rattle.gap_cert.specs.Certificates.{Certificate}
 use Rattle.gap_check.specs.Accepting.{Accepted}
 use Rattle.gap_files.specs.Outside.{FilesNow, SinkNow, SameEverywhere, bytes_of}
-use Rattle.gap_rule.specs.Certificates.{RulesCertificate}
 use Rattle.gap_rule.specs.Names.{AreTold, held, told_bytes}
-use Rattle.gap_rule.specs.Rules.{Rules, After}
+use Rattle.gap_rule.specs.Rules.{Rules}
 use Rattle.gap_rule.specs.declared.task.Task.{Task}
-use Rattle.gap_rule.specs.declared.task.Task.TheVariants.{Upgrade}
 use Rattle.gap_trace.specs.Marks.{stream}
 use Rattle.gap_trace.specs.Steps.{IsUnstarted}
 use Rattle.gap_upgrade.specs.Upgrading.{Upgrades, HoldsUpgrade, HoldsFront}
@@ -22,11 +20,9 @@ use Rattle.gap_words.specs.declared.refusal.Refusal.{Refusal}
 use Rattle.gap_words.specs.declared.refusal.Refusal.TheVariants.{Words, Port, Job, HeldRange, Certificate as BadCertificate, Differs}
 use Rattle.gap_top.specs.Answers.{Answers, IsUnruled, IsSettled, Comes, ReportsRefusal}
 use Rattle.gap_top.specs.Statuses.{status_number, IsOneOf}
-use Rattle.gap_top.specs.Steps.{Refuses}
 use Rattle.gap_top.specs.Working.{EndsRenewal, Renews, Performs}
 use Rattle.gap_top.specs.Renewing.{LeavesFront}
 use Rattle.gap_top.specs.declared.stop.Stop.{Stop}
-use Rattle.gap_top.specs.declared.stop.Stop.TheVariants.{Refused, ReadFault, WriteFault, OutOfMemory}
 use Rattle.gap_top.proofs.TellLaws.{upgraded_task}
 
 -- a told content of a name

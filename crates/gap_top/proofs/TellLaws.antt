@@ -11,7 +11,6 @@ use Rattle.gap_head.proofs.SaidLaws.{told_said, said_made}
 use Rattle.gap_instance.specs.Instances.{InstanceValue, instance_of}
 use Rattle.gap_job.specs.Jobs.{job_in}
 use Rattle.gap_job.specs.declared.fault.JobFault.{JobFault}
-use Rattle.gap_model.specs.declared.outcome.Told.{Told}
 use Rattle.gap_model.specs.Outcomes.{IsToldRight}
 use Rattle.gap_orlib.specs.Ports.{port as market_in}
 use Rattle.gap_orlib.specs.declared.fault.PortFault.{PortFault}
@@ -20,7 +19,7 @@ use Rattle.gap_words.specs.Forms.{check, verify, upgrade}
 use Rattle.gap_words.specs.declared.refusal.Refusal.{Refusal}
 use Rattle.gap_words.specs.declared.refusal.Refusal.TheVariants.{Port, Job as BadJob}
 use Rattle.gap_rule.specs.Certificates.{WasAccepted, RulesCertificate, IsOfFiles}
-use Rattle.gap_rule.specs.Rules.{Rules, After, GoesOn, RulesClaim, RulesPair, RulesClaimed, refused_as}
+use Rattle.gap_rule.specs.Rules.{Rules, After, RulesClaim, RulesPair, RulesClaimed, refused_as}
 use Rattle.gap_rule.specs.Steps.{CanBeDone}
 use Rattle.gap_rule.specs.declared.task.Task.{Task}
 use Rattle.gap_rule.specs.declared.task.Task.TheVariants.{Check, Verify, Upgrade}
@@ -65,6 +64,17 @@ task_by bytes task (Err why) accepted after = absurd (cc)
 
 pub upgraded_task : (cert new : List ℕ) (holds : List ℕ → List ℕ) (task : Task) → Rules (upgrade cert new) holds (Ok task) → (v : VerdictValue) × (task ≡ Upgrade v)
 upgraded_task cert new holds task rules = task_by (holds cert) task rules.found rules.holds rules.after
+
+-- a certificate that is written anew was accepted
+same_upgrade : (v w : VerdictValue) → ◌≡◌ {A = Result Task Refusal} (Ok (Upgrade v)) (Ok (Upgrade w)) → w ≡ v
+same_upgrade v w e = cc
+
+upgraded_by : (bytes : List ℕ) (v : VerdictValue) (found : Result VerdictValue Refusal) → RulesCertificate bytes found → After found (λ w r. r ≡ Ok (Upgrade w)) (Ok (Upgrade v)) → Accepted bytes v
+upgraded_by bytes v (Ok w) accepted after = subst (Accepted bytes) (same_upgrade v w after) accepted
+upgraded_by bytes v (Err why) accepted after = absurd (cc)
+
+pub upgraded : (cert new : List ℕ) (holds : List ℕ → List ℕ) (v : VerdictValue) → Rules (upgrade cert new) holds (Ok (Upgrade v)) → Accepted (holds cert) v
+upgraded cert new holds v rules = upgraded_by (holds cert) v rules.found rules.holds rules.after
 
 pub checked_upgrade : (cert new : List ℕ) (holds : List ℕ → List ℕ) (v : VerdictValue) → Rules (upgrade cert new) holds (Ok (Upgrade v)) → IsChecked (holds cert) v
 checked_upgrade cert new holds v rules = let accepted = upgraded cert new holds v rules in record { accepted = accepted; right = bounds (holds cert) v accepted }

@@ -6,7 +6,6 @@ use Rattle.gap_check.specs.Accepting.{Accepted}
 use Rattle.gap_files.specs.Outside.{FilesNow, SinkNow}
 use Rattle.gap_instance.specs.Instances.{instance_of}
 use Rattle.gap_job.specs.Jobs.{job_in}
-use Rattle.gap_model.specs.declared.outcome.Told.{Told}
 use Rattle.gap_model.specs.Outcomes.{IsToldRight}
 use Rattle.gap_orlib.specs.Ports.{port}
 use Rattle.gap_rule.specs.Certificates.{IsOfFiles}
