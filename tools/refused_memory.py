@@ -85,6 +85,7 @@ COMMANDS = [
     ["solve", "port", "job", "new"],
     ["check", "cert"],
     ["verify", "port", "job", "cert"],
+    ["upgrade", "cert", "new"],
     ["demo", "1", "5", "2", "20", "50"],
 ]
 
