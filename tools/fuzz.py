@@ -1,22 +1,25 @@
 #!/usr/bin/env python3
 """Feeds the built program with damaged port files, jobs and certificates, and holds it to tools/reference.py.
 
-    tools/fuzz.py --count 100000 --seed 1
+    tools/fuzz.py --count 100000 --seed 1 --jobs 4
 
-The inputs hang on the seed alone. Of each one the program has to answer, twice with the same bytes: a status of the table,
-nothing on standard error, the line of the refusal that the reference finds at its place, or the whole report; `check` and
-`verify` accept whatever `solve` wrote, and say of each weight what `solve` printed; `check` accepts of the damaged
-certificates exactly those that the reference finds valid. Prints each input that isn't so into a file, and answers 1.
-Python's standard library alone.
+The inputs hang on the seed alone, and what is found doesn't hang on the number of processes. Of each input the program has
+to answer: a status of the table, nothing on standard error, the line of the refusal that the reference finds at its place,
+or the whole report; what the reference doesn't say to the byte, as what `solve` prints and writes, twice the same. `check`
+and `verify` accept whatever `solve` wrote, and say of each weight what `solve` printed; `upgrade` copies it; `check` accepts
+of the damaged certificates exactly those that the reference finds valid. Each input that isn't so is kept in a folder, and
+the answer is then 1. Python's standard library alone.
 """
 
 import argparse
+import functools
 import json
 import math
+import multiprocessing
 import os
 import random
 import re
-import subprocess
+import signal
 import sys
 import tempfile
 import time
@@ -30,6 +33,9 @@ USAGE = (
     b"usage: portgap quick PORT HELD LOTS P Q NODES | solve PORT JOB CERT | check CERT | "
     b"verify PORT JOB CERT | demo NUMBER N HELD LOTS NODES | upgrade CERT NEW"
 )
+SHARED = "/dev/shm"
+PATIENCE = 120  # seconds for one run
+DAMAGES = 12  # of each certificate
 
 
 class Broken(Exception):
@@ -40,41 +46,78 @@ def said(refused):
     return refused.status, refused.line.encode() + b"\n"
 
 
+class Late(Exception):
+    """The program took too long."""
+
+
+def late(*_):
+    raise Late
+
+
 class Runner:
+    """Runs the program in a folder, in which this process stands from then on."""
+
     def __init__(self, program, folder):
-        self.program, self.folder = os.path.abspath(program), folder
-        self.runs = 0
+        self.program, self.runs = program, 0
+        self.files = open(os.devnull, "rb"), tempfile.TemporaryFile(dir=folder), tempfile.TemporaryFile(dir=folder)
+        self.ends = [file.fileno() for file in self.files]
+        os.chdir(folder)
+        signal.signal(signal.SIGALRM, late)
 
     def put(self, name, data):
-        with open(os.path.join(self.folder, name), "wb") as file:
+        with open(name, "wb") as file:
             file.write(data)
 
     def get(self, name):
-        with open(os.path.join(self.folder, name), "rb") as file:
-            return file.read()
+        """The content of a file; None where it is missing."""
+        try:
+            with open(name, "rb") as file:
+                return file.read()
+        except FileNotFoundError:
+            return None
 
-    def once(self, words):
+    def begun(self, words):
+        """The program with these words, what it says going to the starts of two files."""
+        for end in self.ends[1:]:
+            os.lseek(end, 0, os.SEEK_SET)
+        actions = [(os.POSIX_SPAWN_DUP2, end, number) for number, end in enumerate(self.ends)]
+        return os.posix_spawn(self.program, [self.program, *words], {}, file_actions=actions)
+
+    def status(self, child, words):
+        signal.alarm(PATIENCE)
+        try:
+            ended = os.waitpid(child, 0)[1]
+        except Late:
+            os.kill(child, signal.SIGKILL)
+            os.waitpid(child, 0)
+            raise Broken(f"{words}: no end in {PATIENCE} s") from None
+        finally:
+            signal.alarm(0)
+        return os.waitstatus_to_exitcode(ended)
+
+    def once(self, *words):
+        """The status and what was printed."""
         self.runs += 1
-        done = subprocess.run(
-            [self.program, *words], cwd=self.folder, stdin=subprocess.DEVNULL, capture_output=True, timeout=120
-        )
-        if done.returncode < 0:
-            raise Broken(f"{words}: ended by signal {-done.returncode}")
-        if done.returncode not in (0, 2, 5, 6, 7, 8):
-            raise Broken(f"{words}: status {done.returncode}: {done.stderr[:200]!r}")
-        if done.stderr:
-            raise Broken(f"{words}: said {done.stderr[:200]!r} on standard error")
-        return done.returncode, done.stdout
+        status = self.status(self.begun(words), words)
+        # the program shares the places in the files, and left them behind what it said
+        out, err = (os.pread(end, os.lseek(end, 0, os.SEEK_CUR), 0) for end in self.ends[1:])
+        if status < 0:
+            raise Broken(f"{words}: ended by signal {-status}")
+        if status not in (0, 2, 5, 6, 7, 8):
+            raise Broken(f"{words}: status {status}: {err[:200]!r}")
+        if err:
+            raise Broken(f"{words}: said {err[:200]!r} on standard error")
+        return status, out
 
-    def run(self, *words):
-        """The status and what was printed, the same in two runs."""
-        first = self.once(words)
-        if self.once(words) != first:
+    def twice(self, words, written=()):
+        """The status and what was printed, the same in two runs, as are the files that it writes."""
+        first = self.once(*words), [self.get(name) for name in written]
+        if (self.once(*words), [self.get(name) for name in written]) != first:
             raise Broken(f"{words}: two runs differ")
-        return first
+        return first[0]
 
     def expect(self, wanted, *words):
-        found = self.run(*words)
+        found = self.once(*words)
         if found != wanted:
             raise Broken(f"{words}: answered {found}, wanted {wanted}")
 
@@ -100,6 +143,10 @@ def drawn_market(draw):
     except Refused:
         return b"2\n.001 .1\n.002 .2\n1 2 0\n"
     return data
+
+
+def assets(market):
+    return int(market.split(None, 1)[0])
 
 
 def drawn_job(draw, n):
@@ -187,13 +234,12 @@ def damaged(draw, data):
 def try_port(runner, draw):
     data = damaged(draw, drawn_market(draw))
     runner.put("port", data)
-    held = 1
     try:
         market = reference.read_port(data)
     except Refused as refused:
         runner.expect(said(refused), "quick", "port", "1", "5", "1", "2", "0")
         return
-    status, text = runner.run("quick", "port", str(held), "5", "1", "2", "0")
+    status, text = runner.twice(("quick", "port", "1", "5", "1", "2", "0"))
     if status != 0 or not re.fullmatch(rb"weight 1/2 (closed|open|none) nodes 0[^\n]*\n(lots( \d+:\d+)+\n)?", text):
         raise Broken(f"quick on a market of {market.n} assets answered {status}, {text!r}")
 
@@ -204,43 +250,44 @@ def told(lines):
 
 
 def solve(runner, market, job):
+    """The lines that `solve` prints."""
     runner.put("port", market)
     runner.put("job", job)
-    status, text = runner.run("solve", "port", "job", "cert")
-    return status, text.split(b"\n")[:-1]
+    status, text = runner.twice(("solve", "port", "job", "cert"), ("cert",))
+    if status != 0:
+        raise Broken(f"solve answered {status}, {text}")
+    return text.split(b"\n")[:-1]
 
 
 def try_job(runner, draw):
     market = drawn_market(draw)
+    n = assets(market)
     damage = draw.choice((odd_job, odd_job, damaged))
-    job = damage(draw, drawn_job(draw, reference.read_port(market).n))
-    runner.put("port", market)
-    runner.put("job", job)
+    job = damage(draw, drawn_job(draw, n))
     try:
-        asked = reference.read_job(job, reference.read_port(market).n)
+        asked = reference.read_job(job, n)
     except Refused as refused:
+        runner.put("port", market)
+        runner.put("job", job)
         runner.expect(said(refused), "solve", "port", "job", "cert")
         return
-    if asked.nodes > 1000:
-        return
-    status, lines = solve(runner, market, job)
-    if status != 0:
-        raise Broken(f"solve answered {status}, {lines}")
-    accepted(runner, lines)
+    if asked.nodes <= 1000:
+        accepted(runner, solve(runner, market, job))
 
 
 def accepted(runner, lines):
-    """What `solve` wrote is accepted by `check`, by `verify` and by the reference, with the same lines."""
-    verdict = b"".join(line + b"\n" for line in told(lines)) + b"yes\n"
-    runner.expect((0, verdict), "check", "cert")
-    runner.expect((0, verdict), "verify", "port", "job", "cert")
+    """The head of what `solve` wrote, and its verdict, that of `check`, of `verify` and of the reference."""
+    verdict = 0, b"".join(line + b"\n" for line in told(lines)) + b"yes\n"
+    runner.expect(verdict, "check", "cert")
+    runner.expect(verdict, "verify", "port", "job", "cert")
     head, weights, found = reference.read_certificate(runner.get("cert"))
     if [line.encode() for line in found] != told(lines):
         raise Broken(f"the reference reads {found}")
     if math.comb(head.lots + head.n - 1, head.n - 1) <= 1000:
-        every = list(reference.lists(head))
+        every = [head.risk_and_return(x) for x in reference.lists(head)]
         for weight, line in zip(weights, found):
-            judge(head, weight, line, min((head.objective(weight, x) for x in every), default=None))
+            judge(head, weight, line, min((head.weighed(weight, *two) for two in every), default=None))
+    return head, verdict
 
 
 def judge(head, weight, line, best):
@@ -263,36 +310,45 @@ def answer_of(read):
         return said(refused)
 
 
+def upgraded(runner, verdict, name, wanted):
+    """`upgrade` of the file says the verdict, and writes the wanted certificate."""
+    runner.expect(verdict, "upgrade", name, "new")
+    if runner.get("new") != wanted:
+        raise Broken(f"upgrade of {name} wrote another certificate")
+
+
 def try_certificate(runner, draw):
     market = drawn_market(draw)
-    job = drawn_job(draw, reference.read_port(market).n)
-    status, lines = solve(runner, market, job)
-    if status != 0:
-        raise Broken(f"solve answered {status}, {lines}")
-    accepted(runner, lines)
-    whole = runner.get("cert")
-    for _ in range(12):
-        data = damaged(draw, whole)
-        runner.put("cert", data)
-        runner.expect(answer_of(lambda: reference.read_certificate(data)[2]), "check", "cert")
+    head, verdict = accepted(runner, solve(runner, market, drawn_job(draw, assets(market))))
+    wholes = [runner.get("cert")]
+    upgraded(runner, verdict, "cert", wholes[0])
+    if head.held == head.held_most:
+        wholes.append(reference.version_one(wholes[0]))
+        runner.put("one", wholes[1])
+        upgraded(runner, verdict, "one", wholes[0])
+    for _ in range(DAMAGES):
+        data = damaged(draw, draw.choice(wholes))
+        runner.put("damaged", data)
+        command = draw.choice((["check", "damaged"], ["check", "damaged"], ["upgrade", "damaged", "new"]))
+        runner.expect(answer_of(lambda: reference.read_certificate(data)[2]), *command)
 
 
 def try_verify(runner, draw):
     market = drawn_market(draw)
-    n = reference.read_port(market).n
-    status, lines = solve(runner, market, drawn_job(draw, n))
-    if status != 0:
-        raise Broken(f"solve answered {status}, {lines}")
+    n = assets(market)
+    job = drawn_job(draw, n)
+    solve(runner, market, job)
+    cert = runner.get("cert")
     for _ in range(4):
         port = damaged(draw, market) if draw.random() < 0.5 else market
-        job = drawn_job(draw, n) if draw.random() < 0.3 else odd_job(draw, runner.get("job"))
+        task = drawn_job(draw, n) if draw.random() < 0.3 else odd_job(draw, job)
         runner.put("other", port)
-        runner.put("task", job)
+        runner.put("task", task)
 
         def read():
             held = reference.read_port(port)
-            asked = reference.read_job(job, held.n)
-            head, weights, verdict = reference.read_certificate(runner.get("cert"))
+            asked = reference.read_job(task, held.n)
+            head, weights, verdict = reference.read_certificate(cert)
             reference.compare(head, weights, held, asked)
             return verdict
 
@@ -302,7 +358,7 @@ def try_verify(runner, draw):
 def try_words(runner, draw):
     words = draw.choice((
         ["quick", "port", "2", "10", "1", "1", "0"], ["solve", "port", "job", "cert"], ["check", "cert"],
-        ["verify", "port", "job", "cert"], ["demo", "7", "5", "2", "10", "3"],
+        ["verify", "port", "job", "cert"], ["demo", "7", "5", "2", "10", "3"], ["upgrade", "cert", "new"],
     ))[:]
     way = draw.randint(0, 2)
     if way == 0:
@@ -319,43 +375,78 @@ SHARES = {"port": 30, "job": 20, "certificate": 30, "verify": 15, "words": 5}
 
 
 def keep(folder, runner, name, number, fault):
-    """The input of a broken promise, as a folder of its own."""
+    """Keeps the input of a broken promise in a folder of its own, and says so."""
     kept = os.path.join(folder, f"{name}-{number}")
     os.makedirs(kept, exist_ok=True)
-    for file in os.listdir(runner.folder):
+    for file in os.listdir("."):
         with open(os.path.join(kept, file), "wb") as out:
             out.write(runner.get(file))
     with open(os.path.join(kept, "FAULT"), "w", encoding="utf-8") as out:
         out.write(str(fault) + "\n")
-    print(f"{name} {number}: {fault}\n  kept in {kept}", flush=True)
+    return f"{name} {number}: {fault}\n  kept in {kept}"
 
 
-def main():
+def tried(words, runner, number):
+    """What is broken at an input; None where nothing is."""
+    draw = random.Random(f"{words.seed}/{number}")
+    names = words.only or list(TRIES)
+    name = draw.choices(names, [SHARES[name] for name in names])[0]
+    try:
+        TRIES[name](runner, draw)
+    except Broken as fault:
+        return keep(words.keep, runner, name, number, fault)
+    return None
+
+
+def piece(words, numbers):
+    """What is broken at some inputs, and how often the program ran."""
+    with tempfile.TemporaryDirectory(dir=words.folder) as folder:
+        runner = Runner(words.program, folder)
+        found = [tried(words, runner, number) for number in numbers]
+        os.chdir(HERE)
+        return [fault for fault in found if fault], runner.runs
+
+
+def pieces(words):
+    """The same for each hundred inputs, in their order."""
+    end = words.first + words.count
+    each = [range(first, min(first + 100, end)) for first in range(words.first, end, 100)]
+    if words.jobs == 1:
+        yield from (piece(words, numbers) for numbers in each)
+        return
+    with multiprocessing.Pool(words.jobs) as pool:
+        yield from pool.imap(functools.partial(piece, words), each)
+        pool.close()
+        pool.join()
+
+
+def asked():
     parser = argparse.ArgumentParser(description="Holds the built program to the formats, over damaged inputs drawn from a seed.")
     parser.add_argument("--program", default=PROGRAM)
     parser.add_argument("--seed", type=int, default=1)
     parser.add_argument("--count", type=int, default=1000, help="how many inputs")
     parser.add_argument("--first", type=int, default=0, help="the number of the first input")
+    parser.add_argument("--jobs", type=int, default=1, help="how many processes try them")
     parser.add_argument("--only", choices=sorted(TRIES), action="append", help="try these alone")
     parser.add_argument("--keep", default="fuzz-found", help="the folder for inputs of broken promises")
+    parser.add_argument("--folder", default=SHARED if os.access(SHARED, os.W_OK) else None, help="where files are written while it runs")
     words = parser.parse_args()
+    words.program, words.keep = os.path.abspath(words.program), os.path.abspath(words.keep)
+    return words
+
+
+def main():
+    words = asked()
     if not os.path.exists(words.program):
         print(f"fuzz.py: there is no program at {words.program}", file=sys.stderr)
         return 2
-    names = words.only or list(TRIES)
-    began, broken = time.monotonic(), 0
-    with tempfile.TemporaryDirectory() as folder:
-        runner = Runner(words.program, folder)
-        for number in range(words.first, words.first + words.count):
-            draw = random.Random(f"{words.seed}/{number}")
-            name = draw.choices(names, [SHARES[name] for name in names])[0]
-            try:
-                TRIES[name](runner, draw)
-            except (Broken, subprocess.TimeoutExpired) as fault:
-                broken += 1
-                keep(words.keep, runner, name, number, fault)
-        took = time.monotonic() - began
-        print(f"{words.count} inputs, {runner.runs} runs, {broken} broken promises, seed {words.seed}, {took:.0f} s")
+    began, runs, broken = time.monotonic(), 0, 0
+    for found, some in pieces(words):
+        runs, broken = runs + some, broken + len(found)
+        for fault in found:
+            print(fault, flush=True)
+    took, spent = time.monotonic() - began, 1000 * sum(os.times()[:4]) / max(words.count, 1)
+    print(f"{words.count} inputs, {runs} runs, {broken} broken promises, seed {words.seed}, {took:.0f} s, {spent:.1f} ms of a processor each")
     return 1 if broken else 0
 
 

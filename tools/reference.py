@@ -5,8 +5,8 @@ prints. tools/fuzz.py holds the program to them. Python's standard library alone
 """
 
 import json
+import operator
 import re
-from fractions import Fraction
 
 MILLION = 10**6
 BLANKS = b" \t\r\n\x1a"
@@ -34,9 +34,6 @@ class Market:
     def rho(self, i, j):
         return MILLION if i == j else self.pairs[min(i, j), max(i, j)]
 
-    def cov(self, i, j):
-        return self.rho(i, j) * self.deviations[i] * self.deviations[j]
-
 
 def tokens(data):
     """The tokens with their places; of a file that is too long those that end before the first byte too many."""
@@ -63,9 +60,9 @@ def numeral(token):
     digits = before + behind
     if len(digits.lstrip(b"0")) > 30 or not -40 <= int(power or 0) <= 40:
         return None
-    exact = Fraction(int(digits)) * Fraction(10) ** (int(power or 0) - len(behind)) * MILLION
-    size = int(exact + Fraction(1, 2))
-    is_exact = size == exact
+    places = int(power or 0) - len(behind) + 6
+    above, below = int(digits) * 10 ** max(places, 0), 10 ** max(-places, 0)
+    size, is_exact = (2 * above + below) // (2 * below), above % below == 0
     if size > 10**30:
         size, is_exact = 10**30, False
     return (-size if sign == b"-" else size), is_exact
@@ -367,17 +364,20 @@ class Head:
     def rho(self, i, j):
         return MILLION if i == j else self.correlations[min(i, j), max(i, j)]
 
-    def cov(self, i, j):
-        return self.rho(i, j) * self.deviations[i] * self.deviations[j]
+    def covariances(self):
+        sizes = list(enumerate(self.deviations))
+        return [[self.rho(i, j) * a * b for j, b in sizes] for i, a in sizes]
 
-    def risk(self, x):
-        held = [i for i, lots in enumerate(x) if lots]
-        return sum(self.cov(i, j) * x[i] * x[j] for i in held for j in held)
+    def risk_and_return(self, x):
+        risk = sum(lots * sum(map(operator.mul, row, x)) for lots, row in zip(x, self.covs) if lots)
+        return risk, sum(map(operator.mul, self.means, x))
+
+    def weighed(self, weight, risk, earned):
+        p, q = weight
+        return p * risk - (q - p) * TERA * self.lots * earned
 
     def objective(self, weight, x):
-        p, q = weight
-        earned = sum(mean * lots for mean, lots in zip(self.means, x))
-        return p * self.risk(x) - (q - p) * TERA * self.lots * earned
+        return self.weighed(weight, *self.risk_and_return(x))
 
 
 def read_mark(source):
@@ -408,6 +408,7 @@ def read_head(source):
     for _ in range(n):
         read_asset(source, head)
     head.correlations = {(i, j): source.sized(4, MILLION) for i in range(n) for j in range(i + 1, n)}
+    head.covs = head.covariances()
     place = source.at
     factor = [[source.sized(8, 10**15) for _ in range(i + 1)] for i in range(n)]
     head.diagonal = [source.number(16, 0, 10**21, signed=True) for _ in range(n)]
@@ -421,7 +422,7 @@ def judge_shift(head, factor, place):
         rest = []
         for j in range(head.n):
             gram = sum(a * b for a, b in zip(factor[i], factor[j]))
-            rest.append(TERA * (head.cov(i, j) + (head.diagonal[i] if i == j else 0)) - gram)
+            rest.append(TERA * (head.covs[i][j] + (head.diagonal[i] if i == j else 0)) - gram)
         others = sum(abs(value) for j, value in enumerate(rest) if j != i)
         if rest[i] < others:
             raise cert_fault("Shift", place, i + 1, rest[i], others)
@@ -540,10 +541,9 @@ def theta(head, part, weight, witness, rows):
     p, q = weight
     y, alpha, tau = witness
     if witness not in rows:
-        held = [i for i in range(head.n) if y[i]]
         rows.clear()
         rows[witness] = [
-            sum(head.cov(i, j) * y[j] for j in held) + head.diagonal[i] * y[i] for i in range(head.n)
+            sum(map(operator.mul, row, y)) + shift * eighths for row, shift, eighths in zip(head.covs, head.diagonal, y)
         ]
     row = rows[witness]
     slopes = [16 * p * row[i] - 64 * (q - p) * TERA * head.lots * head.means[i] + alpha for i in range(head.n)]
@@ -673,6 +673,75 @@ def read_certificate(data):
     if source.at < len(data):
         raise cert_fault("Trail", source.at)
     return head, [weight for weight, _ in sections], [line for _, line in sections]
+
+
+# ---- the same certificate in version 1
+
+
+class Copying:
+    """The bytes of a certificate, which are copied or passed over."""
+
+    def __init__(self, data):
+        self.data, self.at, self.out = data, 0, bytearray()
+
+    def skip(self, width):
+        self.at += width
+        return self.data[self.at - width : self.at]
+
+    def take(self, width):
+        piece = self.skip(width)
+        self.out += piece
+        return piece
+
+    def number(self, width):
+        return int.from_bytes(self.take(width), "big")
+
+
+def copy_witness(source):
+    source.take(6 * source.number(2) + 32)
+
+
+def copy_tree(source):
+    """A tree, each leaf with its witness."""
+    last, due = b"", 1
+    while due:
+        code, start = source.data[source.at], len(source.out)
+        due += 1 if code in (HELD, LOTS) else -1
+        if code == AGAIN:
+            source.skip(1)
+            source.out += last
+        elif code == TANGENT:
+            source.take(1)
+            copy_witness(source)
+            last = bytes(source.out[start:])
+        else:
+            source.take({COUNT: 1, VOID: 33, HELD: 3, LOTS: 5}[code])
+
+
+def copy_section(source):
+    outcome = source.take(3)[2]
+    if outcome in (1, 3):
+        source.take(4 * int.from_bytes(source.skip(2), "big") + 16)
+    if outcome in (3, 4):
+        source.take(16)
+    if outcome != 2 and source.number(1):
+        copy_witness(source)
+    copy_tree(source)
+
+
+def version_one(data):
+    """A certificate of version 2 that holds exactly K1 assets, in version 1: without K2 and the numbers of entries."""
+    source = Copying(b"GAPCERT1" + data[8:])
+    source.take(8)
+    n = source.number(2)
+    source.take(4)
+    source.skip(2)
+    source.take(4 * source.number(1) + 4)
+    source.take(14 * n + 2 * n * (n - 1) + 4 * n * (n + 1) + 16 * n)
+    for _ in range(source.number(1)):
+        copy_section(source)
+    source.take(4)
+    return bytes(source.out)
 
 
 # ---- every list

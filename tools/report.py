@@ -6,9 +6,9 @@
     tools/report.py --svg frontier.svg report.txt
 
 Reads the report from the file named, or from standard input, as `solve`, `demo` and `quick` write it. Prints for each
-weight the objective, the bound, the gap between them in percent of the objective, and, where the report has a frontier row for it,
-the deviation of the return (the root of the risk) and the return, both per period, and the assets held. Each number is one
-of the report's in decimals; nothing is solved again. Python's standard library alone.
+weight the objective, the bound, the gap between them in percent of the objective, where the report has a frontier row for it
+the deviation of the return (the root of the risk, where that isn't below 0) and the return, both per period, and the assets
+held. Each number is one of the report's in decimals; nothing is solved again. Python's standard library alone.
 """
 
 import argparse
@@ -60,12 +60,17 @@ def read_lots(text):
     return [tuple(int(part) for part in entry.split(":")) for entry in text.split()]
 
 
+def root(risk):
+    """None where the risk is below 0, as correlations that no market has can make it."""
+    return None if risk < 0 else risk.sqrt()
+
+
 def read_row(found, weights):
     place, p, q, risk, ret, rank = found.groups()
     if not 1 <= int(place) <= len(weights) or weights[int(place) - 1]["weight"] != f"{p}/{q}":
         raise Fault("a row of no weight")
     weights[int(place) - 1]["row"] = {
-        "deviation": max(value(risk), Decimal(0)).sqrt(),
+        "deviation": root(value(risk)),
         "return": value(ret),
         "efficient": rank == "efficient",
     }
@@ -221,22 +226,35 @@ def label(weight):
 
 
 def points(frame, rows):
-    """A mark for each place where rows stand, with the names of their weights."""
-    places = {}
+    """A mark for each place where rows stand, with the names of their weights, from the highest place down."""
+    places, taken = {}, []
     for weight in rows:
         places.setdefault((weight["row"]["deviation"], weight["row"]["return"]), []).append(weight)
-    for (deviation, ret), group in places.items():
-        yield point(frame.x(float(deviation)), frame.y(float(ret)), group)
+    for (deviation, ret), group in sorted(places.items(), key=lambda place: -place[0][1]):
+        yield point(frame.x(float(deviation)), frame.y(float(ret)), group, taken)
 
 
-def point(x, y, group):
+def clear(taken, left, right, y):
+    """The first height from y down where no text stands between left and right yet; it is then taken."""
+    for start, end, height in sorted(taken, key=lambda text: text[2]):
+        if start < right and left < end and abs(height - y) < 14:
+            y = height + 14
+    taken.append((left, right, y))
+    return y
+
+
+def point(x, y, group, taken):
     kind = "efficient" if group[0]["row"]["efficient"] else "dominated"
     shape = f'<circle cx="{x:.1f}" cy="{y:.1f}" r="4.5" class="{kind}"/>'
     if any(weight["state"] == "open" for weight in group):
         shape = f'<circle cx="{x:.1f}" cy="{y:.1f}" r="8" class="open"/>' + shape
-    text = escape(", ".join(label(weight) for weight in group))
-    side = f'x="{x + 11:.1f}"' if x < WIDTH * 0.75 else f'x="{x - 11:.1f}" text-anchor="end"'
-    return f'<g><title>weight {text}</title>{shape}<text {side} y="{y + 14:.1f}">{text}</text></g>'
+    text = ", ".join(label(weight) for weight in group)
+    wide = 7 * len(text)
+    if x < WIDTH * 0.75:
+        side, height = f'x="{x + 11:.1f}"', clear(taken, x + 11, x + 11 + wide, y + 14)
+    else:
+        side, height = f'x="{x - 11:.1f}" text-anchor="end"', clear(taken, x - 11 - wide, x - 11, y + 14)
+    return f'<g><title>weight {escape(text)}</title>{shape}<text {side} y="{height:.1f}">{escape(text)}</text></g>'
 
 
 STYLE = (
@@ -248,7 +266,7 @@ STYLE = (
 
 def picture(weights):
     """The frontier as SVG: the efficient rows joined by a line, dominated ones hollow, open weights ringed with their gap."""
-    rows = [weight for weight in weights if weight["row"]]
+    rows = [weight for weight in weights if weight["row"] and weight["row"]["deviation"] is not None]
     if not rows:
         raise Fault("the report has no frontier rows to draw")
     frame = Frame([(float(w["row"]["deviation"]), float(w["row"]["return"])) for w in rows])
