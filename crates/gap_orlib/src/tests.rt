@@ -125,3 +125,82 @@ fn too_long(rt: HostRuntime) -> Result<(), Fail> {
     assert_eq!(rt; last, stop);
     Ok(())
 }
+
+/// A market of two assets that aren't correlated.
+const A: [u8; 24] = *b"2\n.001 .1\n.002 .2\n1 2 0\n";
+
+/// The same with an `x` in the byte at a place.
+fn with_x(at: usize) -> [u8; 24] {
+    let mut bytes = A;
+    if at < 24 {
+        bytes[at] = b'x';
+    }
+    bytes
+}
+
+/// Why bytes that come in pieces of at most `size` are no market; None where they are one.
+fn stop_of(alloc: Global, bytes: &[u8], size: usize) -> Option<PortStop>
+    requires { 0 < size }
+{
+    read(alloc, bytes, size).err()
+}
+
+/// This fault at this place.
+fn fault(place: u64, kind: PortKind) -> Option<PortStop> {
+    Some(PortStop::Fault(PortFault { place, kind }))
+}
+
+#[test]
+fn each_cut_and_each_byte_replaced(rt: HostRuntime) {
+    let missing = PortKind::Missing { i: 1, j: 2 };
+    // what is wrong with the bytes before the place, and where; and what with an `x` in the byte there, and where
+    let rows: [(u64, PortKind, u64, PortKind); 23] = [
+        (0, PortKind::Short, 0, PortKind::Count),
+        (1, PortKind::Short, 0, PortKind::Count),
+        (2, PortKind::Short, 2, PortKind::Numeral),
+        (2, PortKind::Numeral, 2, PortKind::Numeral),
+        (4, PortKind::Short, 2, PortKind::Numeral),
+        (5, PortKind::Short, 2, PortKind::Numeral),
+        (6, PortKind::Short, 2, PortKind::Numeral),
+        (7, PortKind::Short, 7, PortKind::Numeral),
+        (7, PortKind::Numeral, 7, PortKind::Numeral),
+        (9, PortKind::Short, 7, PortKind::Numeral),
+        (10, PortKind::Short, 10, PortKind::Numeral),
+        (10, PortKind::Numeral, 10, PortKind::Numeral),
+        (12, PortKind::Short, 10, PortKind::Numeral),
+        (13, PortKind::Short, 10, PortKind::Numeral),
+        (14, PortKind::Short, 10, PortKind::Numeral),
+        (15, PortKind::Short, 15, PortKind::Numeral),
+        (15, PortKind::Numeral, 15, PortKind::Numeral),
+        (17, missing, 15, PortKind::Numeral),
+        (18, missing, 18, PortKind::Index),
+        (19, PortKind::Short, 18, PortKind::Index),
+        (20, PortKind::Short, 20, PortKind::Index),
+        (21, PortKind::Short, 20, PortKind::Index),
+        (22, PortKind::Short, 22, PortKind::Numeral),
+    ];
+    for at in 0..23usize {
+        let (cut_at, cut, x_at, x) = rows[at];
+        for size in [1usize, 7, 100] {
+            assert_eq!(rt;
+                stop_of(rt.alloc(), &A[..at], size),
+                fault(cut_at, cut),
+                "cut at {at}"
+            );
+            assert_eq!(rt;
+                stop_of(rt.alloc(), &with_x(at), size),
+                fault(x_at, x),
+                "x at {at}"
+            );
+        }
+    }
+    for size in [1usize, 7, 100] {
+        // the last line feed isn't needed, and an `x` in its place makes the last token `0x`
+        assert_eq!(rt; stop_of(rt.alloc(), &A[..23], size), None);
+        assert_eq!(rt;
+            stop_of(rt.alloc(), &with_x(23), size),
+            fault(22, PortKind::Numeral)
+        );
+        assert_eq!(rt; stop_of(rt.alloc(), &A, size), None);
+    }
+}

@@ -30,30 +30,26 @@ fn writes_version_two(rt: HostRuntime) -> Result<(), Fail> {
 fn leaves_a_front_where_a_call_fails(rt: HostRuntime) -> Result<(), Fail> {
     let alloc = rt.alloc();
     // the calls on files are the start, a read, an append, the read of the end, and the append of the end mark
+    // the call and the write that are to fail, at last none; the answer, the length of the new file, what is printed
     let rows = [
-        (1u64, Stop::WriteFault),
-        (2, Stop::ReadFault),
-        (3, Stop::WriteFault),
-        (4, Stop::ReadFault),
-        (5, Stop::WriteFault),
+        (1u64, 0u64, Err(Stop::WriteFault), 0usize, ""),
+        (2, 0, Err(Stop::ReadFault), 0, ""),
+        (3, 0, Err(Stop::WriteFault), 0, ""),
+        (4, 0, Err(Stop::ReadFault), 187, ""),
+        (5, 0, Err(Stop::WriteFault), 187, REPORT),
+        (0, 1, Err(Stop::WriteFault), 187, ""),
+        (6, 2, Ok(()), 191, REPORT),
     ];
-    for (k, stop) in rows {
+    for (k, write, due, length, told) in rows {
         let mut files = MemoryFiles::new(alloc, vec![in alloc; k]?);
         files.put("OLD", ONE.as_slice())?;
-        let mut out = MemorySink::new(alloc, Vec::new(alloc));
-        assert_eq!(rt;
-            upgrade(alloc, "OLD", "NEW", &mut files, &mut out),
-            Err(stop),
-            "call {k}"
-        );
+        let mut out = MemorySink::new(alloc, vec![in alloc; write]?);
+        let answer = upgrade(alloc, "OLD", "NEW", &mut files, &mut out);
+        assert_eq!(rt; answer, due, "call {k}, write {write}");
         let bytes = files.content("NEW").unwrap_or(b"".as_slice());
-        assert!(rt; bytes.len() < 191 && TWO.starts_with(bytes), "call {k}");
-        let told = if k < 5 {
-            b"".as_slice()
-        } else {
-            REPORT.as_bytes()
-        };
-        assert_eq!(rt; out.bytes(), told, "call {k}");
+        assert_eq!(rt; bytes.len(), length, "call {k}, write {write}");
+        assert!(rt; TWO.starts_with(bytes), "call {k}, write {write}");
+        assert_eq!(rt; out.bytes(), told.as_bytes(), "call {k}, write {write}");
     }
     Ok(())
 }

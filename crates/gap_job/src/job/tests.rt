@@ -104,6 +104,7 @@ fn takes_a_mebibyte_at_most(rt: HostRuntime) -> Result<(), Fail> {
 fn says_what_is_wrong(rt: HostRuntime) {
     let alloc = rt.alloc();
     let rows = [
+        (r#""lots":null"#, Kind(Key::Lots)),
         (r#""lots":100.0"#, Kind(Key::Lots)),
         (r#""lots":0"#, Range(Key::Lots)),
         (r#""lots":10001"#, Range(Key::Lots)),
@@ -116,15 +117,20 @@ fn says_what_is_wrong(rt: HostRuntime) {
         (r#""held":[0,2]"#, Range(Key::Held)),
         (r#""held":[2,1]"#, Range(Key::Held)),
         (r#""held":[2,4]"#, Range(Key::Held)),
+        (r#""least":null"#, Kind(Key::Least)),
         (r#""least":[]"#, Kind(Key::Least)),
         (r#""least":0"#, Range(Key::Least)),
         (r#""least":11"#, Range(Key::Least)),
+        (r#""greatest":null"#, Kind(Key::Greatest)),
         (r#""greatest":-1"#, Kind(Key::Greatest)),
         (r#""greatest":0"#, Range(Key::Greatest)),
         (r#""greatest":11"#, Range(Key::Greatest)),
+        (r#""limits":null"#, Kind(Key::Limits)),
         (r#""limits":1"#, Kind(Key::Limits)),
         (r#""limits":[[1,1]]"#, Kind(Key::Limits)),
         (r#""limits":[[1,1,1,1]]"#, Kind(Key::Limits)),
+        (r#""limits":[[0,0,1.0]]"#, Kind(Key::Limits)),
+        (r#""limits":[[0,0,1]]"#, Asset(Key::Limits)),
         (r#""limits":[[0,1,1]]"#, Asset(Key::Limits)),
         (r#""limits":[[4,1,1]]"#, Asset(Key::Limits)),
         (r#""limits":[[1,1,1],[1,0,1]]"#, Asset(Key::Limits)),
@@ -132,22 +138,29 @@ fn says_what_is_wrong(rt: HostRuntime) {
         (r#""limits":[[1,11,1]]"#, Range(Key::Limits)),
         (r#""limits":[[1,1,0]]"#, Range(Key::Limits)),
         (r#""limits":[[1,1,11]]"#, Range(Key::Limits)),
+        (r#""present":null"#, Kind(Key::Present)),
         (r#""present":{}"#, Kind(Key::Present)),
         (r#""present":[[1,1,1]]"#, Kind(Key::Present)),
+        (r#""present":[[0,-1]]"#, Kind(Key::Present)),
+        (r#""present":[[0,10001]]"#, Asset(Key::Present)),
         (r#""present":[[0,1]]"#, Asset(Key::Present)),
         (r#""present":[[4,1]]"#, Asset(Key::Present)),
         (r#""present":[[2,1],[2,1]]"#, Asset(Key::Present)),
         (r#""present":[[2,10001]]"#, Range(Key::Present)),
+        (r#""turnover":null"#, Kind(Key::Turnover)),
         (r#""turnover":1e2"#, Kind(Key::Turnover)),
         (r#""turnover":3000001"#, Range(Key::Turnover)),
+        (r#""weights":null"#, Kind(Key::Weights)),
         (r#""weights":1"#, Kind(Key::Weights)),
         (r#""weights":[]"#, Range(Key::Weights)),
         (r#""weights":[[1,2],[1]]"#, Kind(Key::Weights)),
         (r#""weights":[[0,0]]"#, Range(Key::Weights)),
         (r#""weights":[[1,101]]"#, Range(Key::Weights)),
         (r#""weights":[[3,2]]"#, Range(Key::Weights)),
+        (r#""nodes":null"#, Kind(Key::Nodes)),
         (r#""nodes":true"#, Kind(Key::Nodes)),
         (r#""nodes":100001"#, Range(Key::Nodes)),
+        (r#""workers":null"#, Kind(Key::Workers)),
         (r#""workers":{}"#, Kind(Key::Workers)),
         (r#""workers":0"#, Range(Key::Workers)),
         (r#""workers":17"#, Range(Key::Workers)),
@@ -186,4 +199,53 @@ fn takes_both_ends(rt: HostRuntime) {
     for keys in rows {
         assert!(rt; is_job(alloc, keys), "{keys}");
     }
+}
+
+// The key `weights` with this entry and so many entries `[0,1]` behind it.
+fn weights_of(alloc: Global, first: &str, more: u32) -> Result<String, Fail> {
+    let mut keys = String::from_str(alloc, "\"weights\":[")?;
+    keys.push_str(first)?;
+    for _ in 0..more {
+        keys.push_str(",[0,1]")?;
+    }
+    keys.push_str("]")?;
+    Ok(keys)
+}
+
+#[test]
+fn counts_the_weights_first(rt: HostRuntime) -> Result<(), Fail> {
+    let alloc = rt.alloc();
+    let keys = weights_of(alloc, "[1,1]", 100)?;
+    assert!(rt; is_job(alloc, keys.as_str()), "101 weights");
+    let keys = weights_of(alloc, "[2,1]", 100)?;
+    assert_eq!(rt; fault_with(alloc, keys.as_str()), Some(Range(Key::Weights)));
+    let keys = weights_of(alloc, "[1]", 100)?;
+    assert_eq!(rt; fault_with(alloc, keys.as_str()), Some(Kind(Key::Weights)));
+    let keys = weights_of(alloc, "[1]", 101)?;
+    assert_eq!(rt; fault_with(alloc, keys.as_str()), Some(Range(Key::Weights)));
+    Ok(())
+}
+
+// A list at a key in which so many further ones nest.
+fn nested(alloc: Global, more: u32) -> Result<String, Fail> {
+    let mut keys = String::from_str(alloc, "\"limits\":[")?;
+    for _ in 0..more {
+        keys.push_str("[")?;
+    }
+    for _ in 0..more {
+        keys.push_str("]")?;
+    }
+    keys.push_str("]")?;
+    Ok(keys)
+}
+
+#[test]
+fn nests_at_most_127_levels(rt: HostRuntime) -> Result<(), Fail> {
+    let alloc = rt.alloc();
+    // the object and the list are two levels
+    let keys = nested(alloc, 125)?;
+    assert_eq!(rt; fault_with(alloc, keys.as_str()), Some(Kind(Key::Limits)));
+    let keys = nested(alloc, 126)?;
+    assert_eq!(rt; fault_with(alloc, keys.as_str()), Some(NotJson));
+    Ok(())
 }
