@@ -1,6 +1,8 @@
 -- Laws of cells in range.
 
-use Rattle.std.proofs.Common.{ℕ, zero, suc, List, [], ◌∷◌, take, replicate, slice_index_or, slice_set}
+use Rattle.std.proofs.Common.{◌≡◌, ℕ, zero, suc, ◌<◌, ◌≤◌, ◌⊎◌, inl, inr, Bool, true, false, List, [], ◌∷◌, length, take, replicate, slice_index_or, slice_set, ◌∙◌, ap}
+use Rattle.std.proofs.lemmas.Bool.{cases_lt}
+use Rattle.std.proofs.lemmas.List.{get_or_past}
 use Rattle.gap_box.specs.declared.cell.Cell.{Cell}
 use Rattle.gap_box.specs.declared.cell.Cell.TheVariants.{Out}
 use Rattle.gap_box.specs.Cells.{IsCell, AreCells}
@@ -38,3 +40,14 @@ set_each (c ∷ cells) (suc i) cell p h (suc k) = set_each cells i cell p (λ j.
 
 pub set_are : (cells : List Cell) (i : ℕ) (cell : Cell) → IsCell cell → AreCells cells → AreCells (slice_set cells i cell)
 set_are cells i cell p h = record { each = set_each cells i cell p h.each }
+
+-- a place whose cell passes a test that Out doesn't is one of the list
+pub place_in : (cells : List Cell) (i : ℕ) (test : Cell → Bool) → test Out ≡ false → test (slice_index_or cells i Out) ≡ true → i < length cells
+place_in cells i test o t = by_place (cases_lt i (length cells))
+  where
+    differ : {b : Bool} → b ≡ true → b ≡ false → ⊥
+    differ p q = cc
+
+    by_place : (i < length cells) ⊎ (length cells ≤ i) → i < length cells
+    by_place (inl l) = l
+    by_place (inr l) = absurd (differ t (ap test (get_or_past cells i Out l) ∙ o))

@@ -12,7 +12,8 @@ use Rattle.gap_cert.specs.declared.field.Field.TheVariants as field
 use Rattle.gap_cert.specs.Certificates.{CertLeaf, CertTree, tip, fork, leaf_field, tree_fields}
 use Rattle.gap_walk.specs.Walks.{splits_first, IsLawfulNext}
 use Rattle.gap_valid.specs.CertTrees.{IsFormed, cert_splits, PlacedLeaf, cert_leaves, lesser_shown, least_shown}
-use Rattle.gap_valid.proofs.ShownLaws.{lesser_empty, le_both, le_trans, lesser_left, lesser_right, lesser_most}
+use Rattle.gap_model.proofs.OrderLaws.{shown_le_trans}
+use Rattle.gap_valid.proofs.ShownLaws.{lesser_empty, le_both, lesser_left, lesser_right, lesser_most}
 use Rattle.gap_judge.specs.Progress.{first_part}
 
 abbrev pub AreTreesAt : List (List Cell) → List CertTree → Type 0
@@ -103,11 +104,11 @@ build_split root front leaves (part ∷ parts) splits s l b = build_split_at roo
 pub lesser_turned : (a b c : Shown) → lesser_shown a (lesser_shown b c) ≡ lesser_shown (lesser_shown a b) c
 lesser_turned a b c = le_both (lesser_shown a (lesser_shown b c)) (lesser_shown (lesser_shown a b) c)
     (lesser_most (lesser_shown a b) c (lesser_shown a (lesser_shown b c))
-    (lesser_most a b (lesser_shown a (lesser_shown b c)) (lesser_left a (lesser_shown b c)) (le_trans (lesser_shown a (lesser_shown b c)) (lesser_shown b c) b (lesser_right a (lesser_shown b c)) (lesser_left b c)))
-    (le_trans (lesser_shown a (lesser_shown b c)) (lesser_shown b c) c (lesser_right a (lesser_shown b c)) (lesser_right b c)))
+    (lesser_most a b (lesser_shown a (lesser_shown b c)) (lesser_left a (lesser_shown b c)) (shown_le_trans (lesser_shown a (lesser_shown b c)) (lesser_shown b c) b (lesser_right a (lesser_shown b c)) (lesser_left b c)))
+    (shown_le_trans (lesser_shown a (lesser_shown b c)) (lesser_shown b c) c (lesser_right a (lesser_shown b c)) (lesser_right b c)))
     (lesser_most a (lesser_shown b c) (lesser_shown (lesser_shown a b) c)
-    (le_trans (lesser_shown (lesser_shown a b) c) (lesser_shown a b) a (lesser_left (lesser_shown a b) c) (lesser_left a b))
-    (lesser_most b c (lesser_shown (lesser_shown a b) c) (le_trans (lesser_shown (lesser_shown a b) c) (lesser_shown a b) b (lesser_left (lesser_shown a b) c) (lesser_right a b)) (lesser_right (lesser_shown a b) c)))
+    (shown_le_trans (lesser_shown (lesser_shown a b) c) (lesser_shown a b) a (lesser_left (lesser_shown a b) c) (lesser_left a b))
+    (lesser_most b c (lesser_shown (lesser_shown a b) c) (shown_le_trans (lesser_shown (lesser_shown a b) c) (lesser_shown a b) b (lesser_left (lesser_shown a b) c) (lesser_right a b)) (lesser_right (lesser_shown a b) c)))
 
 pub least_more : (shown : List Shown) (a : Shown) → least_shown (shown ++ a ∷ []) ≡ lesser_shown (least_shown shown) a
 least_more [] a = lesser_empty a

@@ -109,7 +109,7 @@ unfolding Judged Runs
 judged_fresh = record { bytes_are = tt; groups = []; scanned = record { bytes = []; run = (refl, refl); fed_is = refl; place_is = refl; sound = refl }; judged = refl }
 
 -- more bytes
-scanned_longer : (fed more : List ℕ) (s : Scan) (groups : List Group) → HasScanned s fed groups → HasScanned (fed_more s more) (fed ++ more) groups
+pub scanned_longer : (fed more : List ℕ) (s : Scan) (groups : List Group) → HasScanned s fed groups → HasScanned (fed_more s more) (fed ++ more) groups
 scanned_longer fed more s groups h = record {
   bytes = h.bytes;
   run = h.run;

@@ -14,3 +14,4 @@ pub mod Faulty
 pub mod AcceptLaws
 pub mod NextLaws
 pub mod CheckerLaws
+pub mod OnceLaws

@@ -16,8 +16,9 @@ use std::alloc::Global;
 use std::marker::Model;
 
 /// Checks a certificate of either version, fed in pieces of any size. It keeps the head, what is told of the sections, one
-/// section's head, one witness, and of the present tree one cell a level: nothing that grows with the nodes but the depth.
-/// It holds a piece while it reads it. It says that memory was refused where more than 2^62 bytes are fed.
+/// section's head, one witness with its products, and of the present tree one cell a level: nothing that grows with the
+/// nodes but the depth. It holds a piece while it reads it. It says that memory was refused where more than 2^62 bytes are
+/// fed.
 ///
 /// Contracts see where it stands as a `State`: it reads on, or has the first fault, or was refused memory.
 #[derive(Drop)]

@@ -31,20 +31,23 @@ fn stop_of(alloc: Global, bytes: &[u8], size: usize) -> Option<CertStop>
     checked(alloc, bytes, size).err()
 }
 
-/// The same, whole, in pieces of 7 and byte by byte; None too where the three differ.
-fn stop_always(alloc: Global, bytes: &[u8]) -> Option<CertStop> {
+/// The same, whole, in pieces of 7 and byte by byte; None where the three differ.
+fn stop_always(alloc: Global, bytes: &[u8]) -> Option<Option<CertStop>> {
     let whole = stop_of(alloc, bytes, 1000);
     if stop_of(alloc, bytes, 7) == whole && stop_of(alloc, bytes, 1) == whole {
-        whole
+        Some(whole)
     } else {
         None
     }
 }
 
-/// This fault at this place.
-fn fault(place: u64, kind: CertKind) -> Option<CertStop> {
-    Some(CertStop::Fault(CertFault { place, kind }))
+/// This fault at this place, each time.
+fn fault(place: u64, kind: CertKind) -> Option<Option<CertStop>> {
+    Some(Some(CertStop::Fault(CertFault { place, kind })))
 }
+
+/// They are a certificate, each time.
+const ACCEPTED: Option<Option<CertStop>> = Some(None);
 
 /// Are these the lots 8 and 2?
 fn is_eight_and_two(lots: &Lots) -> bool {
@@ -134,44 +137,89 @@ const FIRST_ROW: Row = Row {
     others: 0,
 };
 
+/// The objective of the worked portfolio, which is told one too great.
+const RAISED: CertKind = CertKind::Objective {
+    found: EIGHTY,
+    claimed: 800_000_000_000_000_001,
+};
+
+/// What alpha, 256 too great, shows is below the objective.
+const LOWERED: CertKind = CertKind::Weak {
+    found: 799_999_999_999_999_968,
+    claimed: EIGHTY,
+};
+
+/// One split more than the budget.
+const ABOVE: CertKind = CertKind::Nodes {
+    inner: 1,
+    budget: 0,
+};
+
 #[test]
-fn names_the_fault_of_a_damaged_byte(rt: HostRuntime) -> Result<(), Fail> {
-    let weak = CertKind::Weak {
-        found: 799_999_999_999_999_968,
-        claimed: EIGHTY,
-    };
-    let nodes = CertKind::Nodes {
-        inner: 1,
-        budget: 0,
-    };
-    let rows: [(usize, u8, u64, CertKind); 12] = [
-        (7, 0x33, 7, CertKind::Magic),
-        (9, 0x01, 8, CertKind::Range),
-        (58, 0x01, 51, CertKind::Shift(FIRST_ROW)),
-        (110, 0x02, 111, CertKind::Range),
-        (116, 0x01, 115, CertKind::Order),
-        (118, 0x03, 111, CertKind::Portfolio(Broken::Lots)),
-        (136, 0x01, 136, CertKind::Count),
-        (136, 0x04, 136, nodes),
-        (150, 0x11, 145, CertKind::Range),
-        (165, 0x01, 183, weak),
-        (182, 0x01, 167, CertKind::Range),
-        (186, 0x00, 183, CertKind::Range),
+fn names_the_fault_of_a_damaged_byte(rt: HostRuntime) {
+    let rows: [(usize, u8, Option<Option<CertStop>>); 14] = [
+        (7, 0x33, fault(7, CertKind::Magic)),
+        (9, 0x01, fault(8, CertKind::Range)),
+        (58, 0x01, fault(51, CertKind::Shift(FIRST_ROW))),
+        (110, 0x02, fault(111, CertKind::Range)),
+        (116, 0x01, fault(115, CertKind::Order)),
+        (118, 0x03, fault(111, CertKind::Portfolio(Broken::Lots))),
+        (134, 0x01, fault(119, RAISED)),
+        (136, 0x01, fault(136, CertKind::Count)),
+        (136, 0x04, fault(136, ABOVE)),
+        (150, 0x11, fault(145, CertKind::Range)),
+        (165, 0x01, fault(183, LOWERED)),
+        // theta falls by 8, and its 64th part rounded up stays
+        (166, 0x01, ACCEPTED),
+        (182, 0x01, fault(167, CertKind::Range)),
+        (186, 0x00, fault(183, CertKind::Range)),
     ];
-    for (at, byte, place, kind) in rows {
+    for (at, byte, due) in rows {
         let stop = stop_always(rt.alloc(), &one_with(at, byte));
-        assert_eq!(rt; stop, fault(place, kind), "byte {at}");
+        assert_eq!(rt; stop, due, "byte {at}");
     }
-    Ok(())
 }
 
 #[test]
-fn accepts_an_alpha_one_greater(rt: HostRuntime) -> Result<(), Fail> {
-    // theta falls by 8, and its 64th part rounded up stays
-    for size in [1000, 7, 1] {
-        assert!(rt; checked(rt.alloc(), &one_with(166, 1), size).is_ok());
+fn names_the_fault_of_a_damaged_byte_of_version_2(rt: HostRuntime) {
+    let range = CertKind::Range;
+    let rows: [(usize, u8, Option<Option<CertStop>>); 25] = [
+        (7, 0x33, fault(7, CertKind::Magic)),
+        (9, 0x01, fault(8, range)),
+        // one asset at least may be held
+        (13, 0x01, ACCEPTED),
+        (15, 0x01, fault(14, range)),
+        (15, 0x03, fault(14, range)),
+        (30, 0x09, fault(113, CertKind::Portfolio(Broken::Least(0)))),
+        (
+            32,
+            0x07,
+            fault(113, CertKind::Portfolio(Broken::Greatest(0))),
+        ),
+        (60, 0x01, fault(53, CertKind::Shift(FIRST_ROW))),
+        (112, 0x02, fault(113, range)),
+        (112, 0x05, fault(112, range)),
+        (114, 0x01, fault(113, range)),
+        (114, 0x03, fault(113, range)),
+        (120, 0x01, fault(119, CertKind::Order)),
+        (122, 0x03, fault(113, CertKind::Portfolio(Broken::Lots))),
+        (138, 0x01, fault(123, RAISED)),
+        (139, 0x02, fault(139, range)),
+        (140, 0x01, fault(140, CertKind::Count)),
+        (140, 0x04, fault(140, ABOVE)),
+        // there is no leaf whose witness could be repeated
+        (140, 0x06, fault(140, range)),
+        (140, 0x07, fault(140, range)),
+        (154, 0x11, fault(149, range)),
+        (169, 0x01, fault(187, LOWERED)),
+        (170, 0x01, ACCEPTED),
+        (186, 0x01, fault(171, range)),
+        (190, 0x00, fault(187, range)),
+    ];
+    for (at, byte, due) in rows {
+        let stop = stop_always(rt.alloc(), &two_with(at, byte));
+        assert_eq!(rt; stop, due, "byte {at}");
     }
-    Ok(())
 }
 
 #[test]
@@ -200,32 +248,107 @@ fn and_zero(alloc: Global, bytes: &[u8]) -> Result<Vec<u8>, OutOfMemory> {
 }
 
 #[test]
-fn names_the_fault_of_damaged_version_2(rt: HostRuntime) -> Result<(), Fail> {
+fn takes_no_byte_behind_the_end(rt: HostRuntime) -> Result<(), Fail> {
     let alloc = rt.alloc();
-    let objective = CertKind::Objective {
-        found: EIGHTY,
-        claimed: EIGHTY + 1,
+    let trail = CertKind::Trail;
+    let one = and_zero(alloc, &ONE)?;
+    assert_eq!(rt; stop_always(alloc, one.as_slice()), fault(187, trail));
+    let two = and_zero(alloc, &TWO)?;
+    assert_eq!(rt; stop_always(alloc, two.as_slice()), fault(191, trail));
+    Ok(())
+}
+
+/// The worked certificate in version 2 up to its section's weight, with this budget.
+fn opened(alloc: Global, budget: u8) -> Result<Vec<u8>, OutOfMemory> {
+    let mut out = Vec::new(alloc);
+    out.extend_from_slice(&TWO[..20])?;
+    out.push(budget)?;
+    out.extend_from_slice(&TWO[21..112])?;
+    Ok(out)
+}
+
+/// The whole of it with this tree, in three pieces.
+fn with_tree(alloc: Global, budget: u8, tree: [&[u8]; 3]) -> Result<Vec<u8>, OutOfMemory> {
+    let mut out = opened(alloc, budget)?;
+    out.extend_from_slice(&TWO[112..140])?;
+    for piece in tree {
+        out.extend_from_slice(piece)?;
+    }
+    out.extend_from_slice(b"END\n")?;
+    Ok(out)
+}
+
+#[test]
+fn names_the_fault_of_a_tree(rt: HostRuntime) -> Result<(), Fail> {
+    let alloc = rt.alloc();
+    let leaf = &TWO[140..187];
+    let again = b"\x06".as_slice();
+    let count = b"\x01".as_slice();
+    // is the first asset held, and: has it one lot or more
+    let held = b"\x04\x00\x01".as_slice();
+    let cut = b"\x05\x00\x01\x00\x01".as_slice();
+    let second = CertKind::Nodes {
+        inner: 2,
+        budget: 1,
     };
-    assert_eq!(rt;
-        stop_always(alloc, &TWO[..187]),
-        fault(187, CertKind::Short)
-    );
-    assert_eq!(rt;
-        stop_always(alloc, and_zero(alloc, &TWO)?.as_slice()),
-        fault(191, CertKind::Trail)
-    );
-    assert_eq!(rt;
-        stop_always(alloc, and_zero(alloc, &ONE)?.as_slice()),
-        fault(187, CertKind::Trail)
-    );
-    assert_eq!(rt;
-        stop_always(alloc, &two_with(138, 1)),
-        fault(123, objective)
-    );
-    assert_eq!(rt;
-        stop_always(alloc, &one_with(134, 1)),
-        fault(119, objective)
-    );
+    let rows = [
+        (1u8, [held, leaf, again], ACCEPTED),
+        (1, [held, count, leaf], ACCEPTED),
+        (1, [held, leaf, leaf], fault(190, CertKind::Range)),
+        (1, [held, again, leaf], fault(143, CertKind::Range)),
+        (1, [held, count, count], fault(144, CertKind::Count)),
+        (1, [cut, leaf, again], fault(140, CertKind::Split)),
+        (1, [held, held, leaf], fault(143, second)),
+        (2, [held, held, leaf], fault(143, CertKind::Split)),
+        (2, [held, count, held], fault(144, CertKind::Split)),
+    ];
+    for (budget, tree, due) in rows {
+        let bytes = with_tree(alloc, budget, tree)?;
+        assert_eq!(rt; stop_always(alloc, bytes.as_slice()), due);
+    }
+    Ok(())
+}
+
+#[test]
+fn names_the_fault_of_a_section_without_lists(rt: HostRuntime) -> Result<(), Fail> {
+    let alloc = rt.alloc();
+    // a void leaf, alpha and tau
+    let mut void = [0u8; 33];
+    void[0] = 2;
+    let rows = [
+        (b"\x01".as_slice(), fault(113, CertKind::Count)),
+        (void.as_slice(), fault(113, CertKind::Void { found: 0 })),
+        (b"\x03".as_slice(), fault(113, CertKind::Range)),
+        (b"\x04\x00\x01".as_slice(), fault(113, ABOVE)),
+        (b"\x06".as_slice(), fault(113, CertKind::Range)),
+    ];
+    for (tree, due) in rows {
+        let mut bytes = opened(alloc, 0)?;
+        bytes.push(2)?;
+        bytes.extend_from_slice(tree)?;
+        bytes.extend_from_slice(b"END\n")?;
+        assert_eq!(rt; stop_always(alloc, bytes.as_slice()), due);
+    }
+    Ok(())
+}
+
+/// The worked certificate in version 2 with a turnover limit.
+fn with_turnover(alloc: Global, most: u8) -> Result<Vec<u8>, OutOfMemory> {
+    let mut out = Vec::new(alloc);
+    out.extend_from_slice(&TWO[..16])?;
+    out.extend_from_slice(&[1, 0, 0, 0, most])?;
+    out.extend_from_slice(&TWO[17..])?;
+    Ok(out)
+}
+
+#[test]
+fn judges_the_turnover(rt: HostRuntime) -> Result<(), Fail> {
+    let alloc = rt.alloc();
+    let turnover = CertKind::Portfolio(Broken::Turnover);
+    let bytes = with_turnover(alloc, 10)?;
+    assert_eq!(rt; stop_always(alloc, bytes.as_slice()), ACCEPTED);
+    let bytes = with_turnover(alloc, 9)?;
+    assert_eq!(rt; stop_always(alloc, bytes.as_slice()), fault(117, turnover));
     Ok(())
 }
 
@@ -277,6 +400,36 @@ fn a_bound_above_what_is_shown_is_weak(rt: HostRuntime) -> Result<(), Fail> {
     let two = open_two(alloc, EIGHTY + 1)?;
     assert_eq!(rt; stop_always(alloc, one.as_slice()), fault(195, weak));
     assert_eq!(rt; stop_always(alloc, two.as_slice()), fault(199, weak));
+    Ok(())
+}
+
+#[test]
+fn an_open_section_is_below_its_objective(rt: HostRuntime) -> Result<(), Fail> {
+    let alloc = rt.alloc();
+    let objective: i128 = 1_000_000_000_000_000_000;
+    let reached = CertKind::NotOpen {
+        objective,
+        bound: objective,
+    };
+    let one = open_one(alloc, objective)?;
+    let two = open_two(alloc, objective)?;
+    assert_eq!(rt; stop_always(alloc, one.as_slice()), fault(131, reached));
+    assert_eq!(rt; stop_always(alloc, two.as_slice()), fault(135, reached));
+    Ok(())
+}
+
+#[test]
+fn an_open_section_spends_its_budget(rt: HostRuntime) -> Result<(), Fail> {
+    let alloc = rt.alloc();
+    let fewer = CertKind::Nodes {
+        inner: 0,
+        budget: 1,
+    };
+    let mut two = open_two(alloc, EIGHTY)?;
+    if let Some(byte) = two.get_mut(20) {
+        *byte = 1;
+    }
+    assert_eq!(rt; stop_always(alloc, two.as_slice()), fault(199, fewer));
     Ok(())
 }
 

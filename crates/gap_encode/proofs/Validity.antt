@@ -16,6 +16,7 @@ use Rattle.gap_box.specs.Cells.{IsCell, AreCells, is_free}
 use Rattle.gap_box.specs.Parts.{held_count}
 use Rattle.gap_box.specs.Splits.{can_cut, lawful_split, child_cells}
 use Rattle.gap_box.proofs.SplitLaws.{length-child, child_are}
+use Rattle.gap_box.proofs.CellLaws.{place_in}
 use Rattle.gap_instance.specs.Limits.{MeetsLimits, held_of}
 use Rattle.gap_instance.specs.Objective.{objective}
 use Rattle.gap_model.specs.declared.outcome.Best.{Best}
@@ -82,16 +83,6 @@ claim_in h w tree (open_at best bound overall) is q c = (written h w best is q c
 claim_in h w tree (unfound bound overall) is q c = c.said
 
 -- ---- splits
-place_in : (cells : List Cell) (i : ℕ) (test : Cell → Bool) → test Out ≡ false → test (slice_index_or cells i Out) ≡ true → i < length cells
-place_in cells i test o t = by_place (cases_lt i (length cells))
-  where
-    differ : {b : Bool} → b ≡ true → b ≡ false → ⊥
-    differ p q = cc
-
-    by_place : (i < length cells) ⊎ (length cells ≤ i) → i < length cells
-    by_place (inl l) = l
-    by_place (inr l) = absurd (differ t (ap test (get_or_past cells i Out l) ∙ o))
-
 cut_below : (l t u : ℕ) → (leb l t && ltb t u) ≡ true → t < u
 cut_below l t u h = grind (arith, nat_tests)
 

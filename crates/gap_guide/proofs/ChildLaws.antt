@@ -24,11 +24,11 @@ use Rattle.gap_model.specs.Tight.{is_tangent}
 use Rattle.gap_model.proofs.LagLaws.{lag_same}
 use Rattle.gap_model.proofs.ThetaLaws.{theta_from_same}
 use Rattle.gap_model.proofs.BoundLaws.{tangent_lawful}
+use Rattle.gap_model.proofs.OrderLaws.{shown_le_trans}
 use Rattle.gap_tangent.proofs.ShownLaws.{tangent_in_range}
 use Rattle.gap_tangent.proofs.EntryLaws.{point_is}
 use Rattle.gap_search.specs.Boards.{FitsPart, IsOpen}
 use Rattle.gap_drive.specs.Driven.{IsBranch}
-use Rattle.gap_search.proofs.CoverLaws.{shown_on}
 use Rattle.gap_leaf.specs.Showing.{witness_shows}
 use Rattle.gap_leaf.specs.Finding.{IsWitness, IsLeafFor}
 use Rattle.gap_guide.specs.Hints.{IsTangentOf}
@@ -51,7 +51,7 @@ module _ (s : Setting) (is : IsSetting s) (part : List Cell) (p : IsPart (tangen
 
   pub child_shows : (leaf new : Leaf) (w : Witness) → FitsPart (tangent_problem s) part leaf → IsTangentOf s.instance.market.assets leaf w → IsLeafFor s (child_cells part split side) w new → ShownLe (shows s part leaf) (shows s (child_cells part split side) new)
   child_shows leaf new w f t for =
-      shown_on (shows s part leaf) (shows s (child_cells part split side) leaf) (shows s (child_cells part split side) new)
+      shown_le_trans (shows s part leaf) (shows s (child_cells part split side) leaf) (shows s (child_cells part split side) new)
       ((tangent_lawful s is).narrower part leaf split side p f.in_range l)
       (subst (λ (z : Shown). ShownLe z (shows s (child_cells part split side) new)) (sym (shown_by s part (child_cells part split side) leaf w t f.tight.something)) for.no_less)
 

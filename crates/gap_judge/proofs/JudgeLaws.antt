@@ -19,11 +19,16 @@ use Rattle.gap_model.specs.Leaves.{AreMultipliers, tangent_shows}
 use Rattle.gap_model.specs.Theta.{void_theta, theta}
 use Rattle.gap_cert.specs.declared.field.Field.TheVariants as field
 use Rattle.gap_cert.specs.Certificates.{CertHead, CertLeaf, count, void, tangent}
+use Rattle.gap_model.specs.Settings.{Setting}
 use Rattle.gap_tangent.specs.Bounds.{setting_with}
+use Rattle.gap_tangent.specs.Kept.{AreTermsOf}
 use Rattle.gap_valid.specs.Heads.{instance_in, shift_in, market_in, root_in, setting_in, IsHead}
 use Rattle.gap_valid.specs.CertTrees.{leaf_shows, lesser_shown, has_point, IsWitness, IsLeafIn}
 use Rattle.gap_valid.specs.Valid.{IsWeight}
 use Rattle.gap_valid.proofs.HeadLaws.{instance_is}
+use Rattle.gap_judge.specs.declared.basis.Basis.{Basis}
+use Rattle.gap_judge.specs.declared.kept.Kept.{Kept}
+use Rattle.gap_judge.specs.Kept.{IsKeptOver, IsKept}
 use Rattle.gap_judge.specs.declared.stop.CertStop.{CertStop}
 use Rattle.gap_judge.specs.declared.stop.CertStop.TheVariants.{Fault, OutOfMemory}
 use Rattle.gap_judge.specs.Progress.{Progress, with_diagonal, first_part, setting_now, shown_next, with_shown, with_told, told_when, behind_shown}
@@ -73,6 +78,18 @@ pub lots_between : (h : CertHead) (I : InstanceValue) (s : ShiftValue) (root : L
 lots_between h I s root x b m =
     let i = (instance_is h b.head_is).limits_are in
     rw b.instance_is (record { count = m.assets_are; least = λ k l. omega arith; most = λ k l. omega (arith, m.greatest_kept k l, i.greatest_within.most k l, i.lots_most) })
+
+-- ---- what is kept of a witness
+
+pub kept_over : (o : Option Basis) (basis : Basis) (kept : Option Kept) → o ≡ Some basis → IsKept o kept → IsKeptOver basis.instance basis.shift kept
+kept_over o basis kept e h = subst (λ (b : Option Basis). IsKept b kept) e h
+
+pub kept_by : (o : Option Basis) (basis : Basis) (kept : Option Kept) → o ≡ Some basis → IsKeptOver basis.instance basis.shift kept → IsKept o kept
+kept_by o basis kept e h = subst (λ (b : Option Basis). IsKept b kept) (sym e) h
+
+-- terms kept under a weight are those of every bound over the same instance and shift under it
+pub kept_for : (I : InstanceValue) (s : ShiftValue) (o : Option Kept) (w : Weight) (S : Setting) → IsKeptOver I s o → S ≡ setting_with I s w → ForSome o (λ k. k.weight ≡ w → AreTermsOf S k.terms)
+kept_for I s o w S h e = λ k is weight. subst (λ (z : Setting). AreTermsOf z k.terms) (sym e) (subst (λ (v : Weight). AreTermsOf (setting_with I s v) k.terms) weight (subst (λ (x : Option Kept). IsKeptOver I s x) is h))
 
 -- ---- leaves
 

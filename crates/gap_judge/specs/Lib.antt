@@ -4,4 +4,5 @@ pub mod Ready
 pub mod Lines
 pub mod Stops
 pub mod Courses
+pub mod Kept
 pub mod Steps

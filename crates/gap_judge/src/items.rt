@@ -11,6 +11,7 @@ ghost use Rattle.gap_valid.specs.Heads.{instance_in};
 ghost use Rattle.gap_valid.specs.CertTrees.{IsWitness};
 ghost use Rattle.gap_judge.specs.Progress.{section_begun, progress_behind};
 ghost use Rattle.gap_judge.specs.Faults.{IsItemRight, objective_now};
+ghost use Rattle.gap_judge.specs.Kept.{IsKeptOver};
 ghost use Rattle.gap_judge.specs.Ready.{IsBegun, IsNodeDue};
 ghost use Rattle.gap_judge.specs.Stops.{IsStop, IsBasisOf, lots_or_none};
 ghost use Rattle.gap_judge.specs.Courses.{progress_at};
@@ -19,6 +20,7 @@ use crate::basis::Basis;
 use crate::course::Course;
 use crate::fault::fault;
 use crate::head::Head;
+use crate::kept::Kept;
 use crate::leaf::next_part;
 use crate::shows::tangent_shown;
 use crate::stop::CertStop;
@@ -161,17 +163,26 @@ pub(crate) fn take_bound(
     Ok(())
 }
 
-/// What the witness for the whole root shows, where one is given.
+/// What the witness for the whole root shows, where one is given; its products are kept.
 #[tactic(auto, unfolding(crate::specs::Progress::progress_behind, crate::specs::Progress::section_begun, crate::specs::Faults::IsItemRight, crate::specs::Faults::IsItemFault))]
-pub(crate) fn take_overall(head: &Head, basis: &Basis, course: &mut Course, w: &Option<Witness>)
+pub(crate) fn take_overall(
+    head: &Head,
+    basis: &Basis,
+    kept: &mut Option<Kept>,
+    course: &mut Course,
+    w: &Option<Witness>,
+)
     requires basis { IsBasisOf head.now basis.now.instance basis.now.shift basis.now.root }
+    requires kept { IsKeptOver basis.now.instance basis.now.shift kept.old }
     requires begun { IsBegun (progress_at head.now course.old) }
     requires ranges { ForSome w.now (IsWitness (instance_in head.now)) }
-    ensures { progress_at head.now course.new ≡ progress_behind (progress_at head.now course.old) (field.Overall w.now) }
+    ensures kept { IsKeptOver basis.now.instance basis.now.shift kept.new }
+    ensures overall { progress_at head.now course.new
+        ≡ progress_behind (progress_at head.now course.old) (field.Overall w.now) }
 {
     let _n = head.n();
     course.overall = match w {
-        Some(w) => tangent_shown(basis, course.weight, &basis.root, w),
+        Some(w) => tangent_shown(basis, kept, course.weight, &basis.root, w),
         None => Shown::Nothing,
     };
 }

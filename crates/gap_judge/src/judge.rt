@@ -1,6 +1,6 @@
 //! The judge of a certificate's items.
 
-ghost use Rattle.std.specs.Prelude.{◌≡◌, ◌≤◌, OnOk, IfErr};
+ghost use Rattle.std.specs.Prelude.{◌≡◌, ◌≤◌, OnOk, IfErr, Some};
 ghost use Rattle.gap_cert.specs.declared.field.Field.TheVariants as field;
 ghost use Rattle.std.specs.Option.{ForSome};
 ghost use Rattle.gap_base.specs.declared.witness.Witness.{Witness};
@@ -8,6 +8,7 @@ ghost use Rattle.gap_valid.specs.Heads.{instance_in, IsHead};
 ghost use Rattle.gap_valid.specs.CertTrees.{IsWitness};
 ghost use Rattle.gap_judge.specs.Progress.{fresh_progress, progress_behind};
 ghost use Rattle.gap_judge.specs.Faults.{IsItemRight};
+ghost use Rattle.gap_judge.specs.Kept.{IsKept};
 ghost use Rattle.gap_judge.specs.Ready.{IsBlank, IsBegun, IsDue};
 ghost use Rattle.gap_judge.specs.Stops.{IsStop, IsBased, IsBasisOf, IsBehindHead, IsNode};
 
@@ -17,6 +18,7 @@ use crate::course::Course;
 use crate::fresh::fresh_course;
 use crate::head::{Head, Numbers};
 use crate::items::{begin, take_bound, take_objective, take_overall, take_portfolio, take_split};
+use crate::kept::Kept;
 use crate::leaf::{take_count, take_tangent, take_void};
 use crate::line::Line;
 use crate::stop::CertStop;
@@ -27,12 +29,14 @@ use std::alloc::Global;
 use std::marker::Model;
 
 /// Judges the items of a certificate in their order. It keeps the head, what is told of the sections, one section's head,
-/// and the place in its tree: nothing that grows with the nodes but one cell a level. Contracts see a `Progress`.
+/// the products of one witness, and the place in the section's tree: nothing that grows with the nodes but one cell a
+/// level. Contracts see a `Progress`.
 #[derive(Drop)]
 pub struct Judge {
     alloc: Global,
     head: Head,
     basis: Option<Basis>,
+    kept: Option<Kept>,
     course: Course,
 }
 
@@ -40,19 +44,21 @@ impl Model for Judge {
     ghost use Rattle.gap_judge.specs.Progress.{Progress};
     ghost use Rattle.gap_judge.specs.Courses.{progress_at};
     ghost use Rattle.gap_judge.specs.Stops.{IsBased};
+    ghost use Rattle.gap_judge.specs.Kept.{IsKept};
 
     ghost Value = { Progress };
 
     ghost view = { λ a. progress_at a.head a.course };
 
-    ghost invariant = { λ a. IsBased a.head a.basis };
+    ghost invariant = { λ a. IsBased a.head a.basis × IsKept a.basis a.kept };
 }
 
 /// What a whole head says.
 fn based<'a>(head: &Head, basis: &'a Option<Basis>) -> &'a Basis
     requires based { IsBased head.now basis.now }
     requires whole { IsHead head.now }
-    ensures { IsBasisOf head.now result.now.instance result.now.shift result.now.root }
+    ensures basis { IsBasisOf head.now result.now.instance result.now.shift result.now.root }
+    ensures there { basis.now ≡ Some result.now }
 {
     let _n = head.n();
     basis.as_ref().unwrap()
@@ -67,6 +73,7 @@ impl Judge {
             alloc,
             head: Head::new(alloc),
             basis: None,
+            kept: None,
             course: fresh_course(alloc),
         }
     }
@@ -126,6 +133,7 @@ impl Judge {
         match basis_of(self.alloc, &self.head, behind) {
             Ok(basis) => {
                 self.basis = Some(basis);
+                self.kept = None;
                 Ok(())
             }
             Err(stop) => {
@@ -135,7 +143,7 @@ impl Judge {
         }
     }
 
-    #[tactic(auto, unfolding(crate::specs::Progress::progress_behind))]
+    #[tactic(auto, using(crate::proofs::JudgeLaws::kept_over, crate::proofs::JudgeLaws::kept_by), unfolding(crate::specs::Progress::progress_behind))]
     /// Takes the witness for the whole root, where one is given.
     fn take_witness(&mut self, w: &Option<Witness>)
         requires begun { IsBegun self.old }
@@ -143,7 +151,7 @@ impl Judge {
         ensures { self.new ≡ progress_behind self.old (field.Overall w.now) }
     {
         let basis = based(&self.head, &self.basis);
-        take_overall(&self.head, basis, &mut self.course, w);
+        take_overall(&self.head, basis, &mut self.kept, &mut self.course, w);
     }
 
     #[tactic(auto, unfolding(crate::specs::Progress::progress_behind, crate::specs::Faults::IsItemRight, crate::specs::Faults::IsItemFault, crate::specs::Ready::IsDue))]
@@ -190,7 +198,7 @@ impl Judge {
         }
     }
 
-    #[tactic(auto, unfolding(crate::specs::Progress::progress_behind, crate::specs::Faults::IsItemRight, crate::specs::Faults::IsItemFault, crate::specs::Ready::IsDue))]
+    #[tactic(auto, using(crate::proofs::JudgeLaws::kept_over, crate::proofs::JudgeLaws::kept_by), unfolding(crate::specs::Progress::progress_behind, crate::specs::Faults::IsItemRight, crate::specs::Faults::IsItemFault, crate::specs::Ready::IsDue))]
     /// Judges a node of a tree; the number of sections is taken by the grammar.
     fn take_node(&mut self, item: &Field, place: u64, behind: u64) -> Result<(), CertStop>
         requires due { IsDue self.old item.now }
@@ -211,7 +219,7 @@ impl Judge {
             }
             Field::TangentLeaf(w) => {
                 let basis = based(&self.head, &self.basis);
-                take_tangent(&self.head, basis, course, w, place, behind)
+                take_tangent(&self.head, basis, &mut self.kept, course, w, place, behind)
             }
             Field::Split(split) => take_split(&self.head, course, *split, place, behind),
             _ => Ok(()),

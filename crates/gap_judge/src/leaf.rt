@@ -6,6 +6,7 @@ ghost use Rattle.gap_model.specs.declared.shown.Shown.TheVariants.{Nothing, Empt
 ghost use Rattle.gap_cert.specs.Certificates.{count, void, tangent};
 ghost use Rattle.gap_judge.specs.Progress.{first_part, with_shown, behind_shown, behind_leaf};
 ghost use Rattle.gap_judge.specs.Faults.{EndsWell, IsLeafRight};
+ghost use Rattle.gap_judge.specs.Kept.{IsKeptOver};
 ghost use Rattle.gap_judge.specs.Ready.{IsLeafDue};
 ghost use Rattle.gap_judge.specs.Stops.{IsLastStop, IsLeafStop, IsBasisOf, parts_or_none};
 ghost use Rattle.gap_judge.specs.Courses.{progress_at};
@@ -15,6 +16,7 @@ use crate::course::Course;
 use crate::ends::{judge_end, tell};
 use crate::fault::fault;
 use crate::head::Head;
+use crate::kept::Kept;
 use crate::shows::{lesser, meets_count, tangent_shown, void_theta_at};
 use crate::stop::CertStop;
 use gap_base::Witness;
@@ -114,23 +116,26 @@ pub(crate) fn take_void(
     pass(head, course, Shown::Empty, behind)
 }
 
-/// A leaf with a tangent point and multipliers.
+/// A leaf with a tangent point and multipliers; the products of its witness are kept.
 pub(crate) fn take_tangent(
     head: &Head,
     basis: &Basis,
+    kept: &mut Option<Kept>,
     course: &mut Course,
     w: &Witness,
     place: u64,
     behind: u64,
 ) -> Result<(), CertStop>
     requires basis { IsBasisOf head.now basis.now.instance basis.now.shift basis.now.root }
+    requires kept { IsKeptOver basis.now.instance basis.now.shift kept.old }
     requires due { IsLeafDue (progress_at head.now course.old) (tangent w.now) }
+    ensures kept { IsKeptOver basis.now.instance basis.now.shift kept.new }
     ensures ok { OnOk result
         (progress_at head.now course.new ≡ behind_leaf (progress_at head.now course.old) (tangent w.now)) }
     ensures right { OnOk result (IsLeafRight (progress_at head.now course.old) (tangent w.now)) }
     ensures fault { IfErr result (IsLeafStop (progress_at head.now course.old) (tangent w.now) place behind) }
 {
     let _place = place;
-    let shown = tangent_shown(basis, course.weight, next_part(&course.walk), w);
+    let shown = tangent_shown(basis, kept, course.weight, next_part(&course.walk), w);
     pass(head, course, shown, behind)
 }

@@ -10,6 +10,7 @@ mod fresh;
 mod head;
 mod items;
 mod judge;
+mod kept;
 mod leaf;
 mod line;
 mod shows;

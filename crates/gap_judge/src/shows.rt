@@ -1,21 +1,25 @@
 //! What the leaves of a certificate show on a part.
 
-ghost use Rattle.std.specs.Prelude.{◌≡◌, Some};
+ghost use Rattle.std.specs.Prelude.{◌≡◌, ◌↔◌, IsTrue, Some};
 ghost use Rattle.std.specs.Option.{ForSome};
 ghost use Rattle.gap_base.specs.declared.witness.Witness.{Witness};
 ghost use Rattle.gap_box.specs.Parts.{IsWithin, can_meet, root_cells};
-ghost use Rattle.gap_model.specs.Leaves.{IsPoint, AreMultipliers, sixty_fourth, tangent_shows};
+ghost use Rattle.gap_model.specs.Leaves.{IsPoint, AreMultipliers};
 ghost use Rattle.gap_model.specs.Theta.{void_theta};
 ghost use Rattle.gap_cert.specs.Certificates.{tangent};
 ghost use Rattle.gap_tangent.specs.Bounds.{setting_with};
+ghost use Rattle.gap_tangent.specs.Seen.{setting_of};
+ghost use Rattle.gap_tangent.specs.Kept.{kept_eighths, AreTermsOf};
 ghost use Rattle.gap_valid.specs.CertTrees.{leaf_shows, lesser_shown, greater_shown, overall_shows};
+ghost use Rattle.gap_judge.specs.Kept.{IsKeptOver};
 ghost use Rattle.gap_judge.specs.Stops.{IsSound};
 
 use crate::basis::Basis;
-use gap_base::{Weight, Witness, ceil_div64};
+use crate::kept::Kept;
+use gap_base::{Eighths, Weight, Witness};
 use gap_box::Part;
 use gap_model::Shown;
-use gap_tangent::{MeanVariance, theta, void_theta};
+use gap_tangent::{MeanVariance, Tangent, void_theta};
 
 /// Can the part meet the count?
 pub(crate) fn meets_count(basis: &Basis, part: &Part) -> bool
@@ -41,34 +45,56 @@ pub(crate) fn void_theta_at(
     void_theta(&bound, part, alpha, tau)
 }
 
-/// A theta's 64th part, brought up to a whole number.
-fn sixty_fourth(theta: i128) -> i128
-    ensures { result ≡ sixty_fourth theta }
+/// Is what is kept of this weight and of this point? It costs one pass.
+fn is_kept(kept: &Kept, weight: Weight, y: &Eighths) -> bool
+    ensures { IsTrue result ↔ ((kept.now.weight ≡ weight) × (kept_eighths kept.now.terms ≡ y.now)) }
 {
-    ceil_div64(theta)
+    kept.weight == weight && kept.terms.is_at(y)
 }
 
-/// What a theta shows.
-fn shown_by(theta: Option<i128>) -> Shown
-    ensures { result ≡ tangent_shows theta }
+/// The tangent at `y`: from what is kept where that is of this weight and this point, in O(N); else formed anew, in O(N)
+/// for each asset with eighths.
+fn tangent_at<'m>(
+    bound: &'m MeanVariance<'m>,
+    weight: Weight,
+    kept: &Option<Kept>,
+    y: &Eighths,
+) -> Tangent<'m>
+    requires kept { ForSome kept.now (λ k. k.weight ≡ weight → AreTermsOf (setting_of bound.now) k.terms) }
+    requires point { IsPoint (setting_of bound.now).instance y.now }
+    ensures { result ≡ record { setting = setting_of bound.now; eighths = y.now } }
 {
-    match theta {
-        None => Shown::Empty,
-        Some(t) => Shown::AtLeast(sixty_fourth(t)),
+    match kept {
+        Some(kept) if is_kept(kept, weight, y) => Tangent::from_terms(bound, &kept.terms),
+        _ => Tangent::at(bound, y),
     }
 }
 
-/// What a tangent leaf shows on the part. Costs O(N) for each asset with eighths, and O(N log N) more.
-#[tactic(auto, unfolding(gap_valid::specs::CertTrees::leaf_shows))]
-pub(crate) fn tangent_shown(basis: &Basis, weight: Weight, part: &Part, w: &Witness) -> Shown
+/// What a tangent leaf shows on the part; its products are kept. Costs O(N log N), and O(N) more for each asset with
+/// eighths where what was kept is of another point.
+#[tactic(auto, using(crate::proofs::JudgeLaws::kept_for), unfolding(gap_valid::specs::CertTrees::leaf_shows))]
+pub(crate) fn tangent_shown(
+    basis: &Basis,
+    kept: &mut Option<Kept>,
+    weight: Weight,
+    part: &Part,
+    w: &Witness,
+) -> Shown
     requires sound { IsSound basis.now.instance basis.now.shift weight }
+    requires kept { IsKeptOver basis.now.instance basis.now.shift kept.old }
     requires within { IsWithin part.now (root_cells basis.now.instance.least basis.now.instance.greatest) }
     requires point { IsPoint basis.now.instance w.now.y }
     requires multipliers { AreMultipliers basis.now.instance.turnover w.now.alpha w.now.tau }
-    ensures { result ≡ leaf_shows (setting_with basis.now.instance basis.now.shift weight) part.now (tangent w.now) }
+    ensures shown { result
+        ≡ leaf_shows (setting_with basis.now.instance basis.now.shift weight) part.now (tangent w.now) }
+    ensures kept { IsKeptOver basis.now.instance basis.now.shift kept.new }
 {
     let bound = MeanVariance::new(&basis.instance, &basis.shift, weight);
-    shown_by(theta(&bound, part, w))
+    let tangent = tangent_at(&bound, weight, kept, &w.y);
+    let theta = tangent.theta(part, w.alpha, w.tau);
+    let terms = tangent.terms();
+    *kept = Some(Kept { weight, terms });
+    Shown::of_tangent(theta)
 }
 
 /// The lesser of two things shown.

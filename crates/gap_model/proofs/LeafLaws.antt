@@ -27,6 +27,10 @@ pub sixty_fourth_least : (v c : ℤ) → v ≤ℤ (pos 64 *ℤ c) → sixty_four
 sixty_fourth_least (pos n) c h = omega (arith, ints)
 sixty_fourth_least (negsuc n) c h = omega (arith, ints)
 
+-- the least number whose 64 times is no less is the 64th part
+pub sixty_fourth_from : (v c : ℤ) → v ≤ℤ (pos 64 *ℤ c) → ((d : ℤ) → v ≤ℤ (pos 64 *ℤ d) → c ≤ℤ d) → c ≡ sixty_fourth v
+sixty_fourth_from v c h k = let a = sixty_fourth_least v c h in let b = k (sixty_fourth v) (sixty_fourth_reached v) in omega (arith, ints)
+
 pub sixty_fourth_grows : (u v : ℤ) → u ≤ℤ v → sixty_fourth u ≤ℤ sixty_fourth v
 sixty_fourth_grows u v h = let a = sixty_fourth_reached v in sixty_fourth_least u (sixty_fourth v) (omega (arith, ints))
 

@@ -4,6 +4,7 @@ pub mod FormLaws
 pub mod LagLaws
 pub mod LimitLaws
 pub mod LeafLaws
+pub mod OrderLaws
 pub mod SizeLaws
 pub mod PricedLaws
 pub mod BoundLaws

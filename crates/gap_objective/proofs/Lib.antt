@@ -1,3 +1,4 @@
 pub mod ChangeLaws
 pub mod HoldingLaws
 pub mod RiskLaws
+pub mod FallLaws

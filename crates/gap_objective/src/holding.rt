@@ -1,12 +1,12 @@
 //! The objective of a list of lots that changes a few places at a time.
 
-ghost use Rattle.std.specs.Prelude.{◌≡◌, ◌≢◌, ℕ, ◌+◌, ◌-◌, ◌*◌, ◌<◌, ◌≤◌, List, length, ℤ, pos, ◌+ℤ◌, ◌-ℤ◌, ◌*ℤ◌, replicate, slice_index_or, slice_set, unsigned_abs};
+ghost use Rattle.std.specs.Prelude.{◌≡◌, ◌≢◌, ℕ, ◌+◌, ◌-◌, ◌*◌, ◌<◌, ◌≤◌, List, length, ℤ, pos, ◌+ℤ◌, ◌-ℤ◌, ◌*ℤ◌, replicate, slice_index_or, slice_set, unsigned_abs, IsTrue, IsFalse, ◌↔◌, ◌<ℤ◌};
 ghost use Rattle.gap_base.specs.Lots.{lots_at};
 ghost use Rattle.gap_base.specs.Sums.{at};
 ghost use Rattle.gap_instance.specs.Instances.{AreBetween, IsInstance};
 ghost use Rattle.gap_instance.specs.Objective.{cov_of, objective};
 ghost use Rattle.gap_instance.specs.Neighbours.{lot_moved, lots_shifted, exchanged};
-ghost use Rattle.gap_objective.specs.Slopes.{slope_of, spread_of, AreShiftedBelow};
+ghost use Rattle.gap_objective.specs.Slopes.{slope_of, spread_of, AreShiftedBelow, StaysFrom};
 ghost use Rattle.gap_objective.specs.Holdings.{AreSlopes};
 
 use crate::terms::{bend, change, first_slope, reached, scale, shifted, spread, steepness};
@@ -143,6 +143,20 @@ impl<'m> Holding<'m> {
     {
         let moved = change(self.lots.get(i), self.lots.get(j));
         self.shifted_value(i, j, moved)
+    }
+
+    /// Can the objective fall where lots go from asset `i` to asset `j`, that is: is its slope at asset `j` below the one
+    /// at asset `i`? Costs O(1), without a product.
+    pub fn may_fall(&self, i: u16, j: u16) -> bool
+        requires first { i < self.now.instance.market.assets }
+        requires second { j < self.now.instance.market.assets }
+        ensures slopes { IsTrue result ↔ (slope_of self.now.instance self.now.weight.p self.now.weight.q self.now.lots j
+            <ℤ slope_of self.now.instance self.now.weight.p self.now.weight.q self.now.lots i) }
+        ensures stays { IsFalse result → StaysFrom self.now.instance self.now.weight.p self.now.weight.q self.now.lots i j }
+        ensures instance { IsInstance self.now.instance }
+    {
+        let _inst = &self.inst;
+        self.slope(j) < self.slope(i)
     }
 
     /// The objective with `moved` lots moved from asset `i` to asset `j`, where `moved` may be negative.

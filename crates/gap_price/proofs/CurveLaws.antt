@@ -1,12 +1,11 @@
 -- The cheapest offers of a part's cells and a least way to hold them give the least cost of its lists.
 
-use Rattle.std.proofs.Common.{◌≡◌, ℕ, zero, suc, ◌+◌, ◌*◌, ◌<◌, ◌≤◌, Bool, true, false, ◌&&◌, ◌||◌, ltb, leb, eqb, if◌then◌else◌, List, [], ◌∷◌, length, slice_index_or, ℤ, pos, ◌+ℤ◌, ◌-ℤ◌, ◌*ℤ◌, ◌≤ℤ◌, ◌<ℤ◌, int_lt, unsigned_abs, refl, sym, ap, ◌∙◌, subst, ◌⊎◌, inl, inr, arith}
-use Rattle.std.proofs.lemmas.Int.{ints, by_lt_z}
+use Rattle.std.proofs.Common.{◌≡◌, ℕ, zero, suc, ◌*◌, ◌<◌, ◌≤◌, Bool, true, false, ◌&&◌, ◌||◌, ltb, leb, eqb, if◌then◌else◌, List, [], ◌∷◌, length, slice_index_or, ℤ, ◌+ℤ◌, ◌*ℤ◌, ◌≤ℤ◌, unsigned_abs, refl, sym, ap, ◌∙◌, subst, ◌⊎◌, inl, inr, arith}
+use Rattle.std.proofs.lemmas.Int.{ints}
 use Rattle.std.proofs.lemmas.Bool.Decides.{nat_tests}
 use Rattle.std.proofs.lemmas.Bool.{and_parts, and_from, eqb-true, le-leb, leb-true, lt-ltb, or_cases, cond-true}
-use Rattle.gap_base.specs.Sums.{sum_below, count_if, at, abs_z}
+use Rattle.gap_base.specs.Sums.{sum_below, count_if}
 use Rattle.gap_base.specs.Lots.{lots_at}
-use Rattle.gap_base.proofs.Ring.{linear, expand}
 use Rattle.gap_base.proofs.SumLaws.{sum_le, sum_same, sum-add, sum-scale, unsigned_abs-sum}
 use Rattle.gap_base.proofs.Counts.{count_same}
 use Rattle.gap_base.proofs.Lists.{count_places}
@@ -17,6 +16,7 @@ use Rattle.gap_box.specs.Parts.{held_count, in_part, IsPick}
 use Rattle.gap_model.proofs.LimitLaws.{in_part_from, in_part_length, in_part_at}
 use Rattle.gap_relax.specs.Choices.{allows, cell_at, IsChoice, total, IsLeastWay}
 use Rattle.gap_price.specs.Curves.{CurveValue, cost_of, weight_of, costs_of, weights_of, IsLeastAt}
+use Rattle.gap_price.specs.Offers.{priced_of, weighed_of}
 
 -- ---- one cell: an offer is that of a number of its lots, and no number of them costs less
 pub record IsBest (g w : ℕ → ℤ) (l u : ℕ) (value weight : ℤ) : Type 0 where
@@ -85,13 +85,6 @@ held_places : (cells : List Cell) (x : List ℕ) → length cells ≡ length x �
 held_places cells x e = count_places (λ v. ltb 0 v) x ∙ ap (λ n. count_if n (λ i. ltb 0 (slice_index_or x i 0))) (sym e)
 
 -- ---- the whole part
--- the cost of v lots of the asset i under the multiplier, and its weight
-abbrev pub priced_of : CurveValue → ℤ → ℕ → ℕ → ℤ
-priced_of c m i v = cost_of c.costs i (pos v) +ℤ m *ℤ weight_of c.varied (lots_at c.costs.present i) (pos v)
-
-abbrev pub weighed_of : CurveValue → ℕ → ℕ → ℤ
-weighed_of c i v = weight_of c.varied (lots_at c.costs.present i) (pos v)
-
 pub costs_are : (c : CurveValue) (x : List ℕ) → costs_of c x ≡ sum_below (length c.cells) (λ i. cost_of c.costs i (lots_at x i))
 unfolding costs_of
 costs_are c x = refl

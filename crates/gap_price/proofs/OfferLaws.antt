@@ -1,8 +1,8 @@
 -- What code tells of offers, and that the cheapest of the candidates is least over a cell's range.
 
-use Rattle.std.proofs.Common.{◌≡◌, ℕ, ◌*◌, ◌+◌, ◌<◌, ◌≤◌, Bool, true, false, ltb, if◌then◌else◌, List, length, slice_index_or, slice_set, ℤ, pos, ◌+ℤ◌, ◌-ℤ◌, ◌*ℤ◌, neg_ℤ, ◌≤ℤ◌, ◌<ℤ◌, int_lt, unsigned_abs, refl, sym, ap, ◌∙◌, subst, ◌⊎◌, inl, inr, arith}
-use Rattle.std.proofs.lemmas.Int.{ints, by_lt_z}
-use Rattle.std.proofs.lemmas.Bool.Decides.{nat_tests}
+use Rattle.std.proofs.Common.{◌≡◌, ℕ, ◌*◌, ◌+◌, ◌<◌, ◌≤◌, Bool, true, false, ◌&&◌, ltb, if◌then◌else◌, List, length, slice_index_or, slice_set, ℤ, pos, ◌+ℤ◌, ◌-ℤ◌, ◌*ℤ◌, neg_ℤ, ◌≤ℤ◌, ◌<ℤ◌, int_lt, unsigned_abs, refl, sym, ap, ◌∙◌, subst, ◌⊎◌, inl, inr, arith}
+use Rattle.std.proofs.lemmas.Int.{ints}
+use Rattle.std.proofs.lemmas.Bool.{and_parts, and_from, lt-ltb, ltb-true}
 use Rattle.gap_base.specs.Sums.{at, abs_z, AreWithin}
 use Rattle.gap_base.specs.Lots.{lots_at}
 use Rattle.gap_base.proofs.Machine.{unsigned_abs-product_le}
@@ -12,51 +12,17 @@ use Rattle.gap_box.specs.declared.cell.Cell.TheVariants.{Out, Held, Free}
 use Rattle.gap_box.specs.Cells.{IsCell, AreCells}
 use Rattle.gap_relax.specs.Choices.{cell_at, IsLeastWay}
 use Rattle.gap_relax.proofs.Order.{lt_tells}
-use Rattle.gap_price.specs.declared.candidates.Candidates.{Candidates}
+use Rattle.gap_price.specs.declared.asset.AssetCost.{AssetCost}
+use Rattle.gap_price.specs.declared.candidates.Candidate.{Candidate}
 use Rattle.gap_price.specs.declared.costs.Varied.{Varied}
 use Rattle.gap_price.specs.declared.costs.Varied.TheVariants.{Lots, Distance}
 use Rattle.gap_price.specs.declared.offer.Offer.{Offer}
 use Rattle.gap_price.specs.Costs.{asset_cost}
-use Rattle.gap_price.specs.Curves.{CostsValue, CurveValue, cost_of, weight_of, price_by, varied_price, IsLeastAt}
-use Rattle.gap_price.specs.Offers.{between, candidates_of, offer_with, offer_of, cheaper, cheapest, least_offer, held_value, held_weight, out_value, out_weight, AreCosts, AreTabled}
+use Rattle.gap_price.specs.Curves.{CurveValue, cost_of, weight_of, price_by, lot_under, distance_under, varied_price, IsLeastAt}
+use Rattle.gap_price.specs.Offers.{cost_by, priced_of, weighed_of, at_lots, cheaper, cheapest, offer_with, offer_held, least_offer, none_offer, held_value, held_weight, out_value, out_weight, AreCosts, AreTabled}
 use Rattle.gap_price.proofs.OneAsset.{cost_least}
 use Rattle.gap_price.proofs.Tables.{table_more}
-use Rattle.gap_price.proofs.CurveLaws.{IsBest, IsBestOf, priced_of, weighed_of, least_of_ways, value_within, slope_within}
-
--- ---- what code forms
-pub cheaper_weight : (a b : Offer) (m : ℕ) → unsigned_abs a.weight ≤ m → unsigned_abs b.weight ≤ m → unsigned_abs (cheaper a b).weight ≤ m
-cheaper_weight a b m h k = by_test (int_lt b.value a.value)
-  where
-    by_test : (t : Bool) → unsigned_abs (if t then b else a).weight ≤ m
-    by_test true = k
-    by_test false = h
-
-pub cheapest_is : (varied : Varied) (m : ℤ) (b : ℕ) (d : Candidates) (l u w : ℕ) (first last inner both all : Offer) → first ≡ offer_with varied m b d.first l → last ≡ offer_with varied m b d.last u → inner ≡ offer_with varied m b d.middle w → w ≡ between l u b → both ≡ cheaper first last → all ≡ cheaper both inner → all ≡ cheaper (cheaper (offer_with varied m b d.first l) (offer_with varied m b d.last u)) (offer_with varied m b d.middle (between l u b))
-cheapest_is varied m b d l u w first last inner both all e f g h p q =
-    q ∙ ap (λ (x : Offer). cheaper x inner) (p ∙ ap (λ (x : Offer). cheaper x last) e ∙ ap (λ (x : Offer). cheaper (offer_with varied m b d.first l) x) f) ∙ ap (λ (x : Offer). cheaper (cheaper (offer_with varied m b d.first l) (offer_with varied m b d.last u)) x) (g ∙ ap (λ (n : ℕ). offer_with varied m b d.middle n) h)
-
-pub held_is : (k : CurveValue) (m : ℤ) (i l u b : ℕ) (d : Candidates) (o : Offer) → cell_at k.cells i ≡ Held l u → d ≡ candidates_of k.costs i (cell_at k.cells i) → b ≡ slice_index_or k.costs.present i 0 → o ≡ cheaper (cheaper (offer_with k.varied m b d.first l) (offer_with k.varied m b d.last u)) (offer_with k.varied m b d.middle (between l u b)) → o ≡ least_offer k m i (cell_at k.cells i)
-held_is k m i l u b d o e f g h =
-    let P : Candidates → Type 0 = λ x. o ≡ cheaper (cheaper (offer_with k.varied m b x.first l) (offer_with k.varied m b x.last u)) (offer_with k.varied m b x.middle (between l u b)) in
-    let p = subst P (f ∙ ap (candidates_of k.costs i) e) h in
-    let Q : ℕ → Type 0 = λ n. o ≡ cheaper (cheaper (offer_with k.varied m n (cost_of k.costs i (pos l)) l) (offer_with k.varied m n (cost_of k.costs i (pos u)) u)) (offer_with k.varied m n (cost_of k.costs i (pos (between l u (slice_index_or k.costs.present i 0)))) (between l u n)) in
-    subst Q g p ∙ ap (least_offer k m i) (sym e)
-
-pub free_is : (k : CurveValue) (m : ℤ) (i l u b : ℕ) (d : Candidates) (o : Offer) → cell_at k.cells i ≡ Free l u → d ≡ candidates_of k.costs i (cell_at k.cells i) → b ≡ slice_index_or k.costs.present i 0 → o ≡ cheaper (cheaper (offer_with k.varied m b d.first l) (offer_with k.varied m b d.last u)) (offer_with k.varied m b d.middle (between l u b)) → o ≡ least_offer k m i (cell_at k.cells i)
-free_is k m i l u b d o e f g h =
-    let P : Candidates → Type 0 = λ x. o ≡ cheaper (cheaper (offer_with k.varied m b x.first l) (offer_with k.varied m b x.last u)) (offer_with k.varied m b x.middle (between l u b)) in
-    let p = subst P (f ∙ ap (candidates_of k.costs i) e) h in
-    let Q : ℕ → Type 0 = λ n. o ≡ cheaper (cheaper (offer_with k.varied m n (cost_of k.costs i (pos l)) l) (offer_with k.varied m n (cost_of k.costs i (pos u)) u)) (offer_with k.varied m n (cost_of k.costs i (pos (between l u (slice_index_or k.costs.present i 0)))) (between l u n)) in
-    subst Q g p ∙ ap (least_offer k m i) (sym e)
-
--- what none cost, where the table has it
-none_of : (c : CostsValue) (i : ℕ) (cell : Cell) → (candidates_of c i cell).none ≡ cost_of c i (pos 0)
-none_of c i Out = refl
-none_of c i (Held l u) = refl
-none_of c i (Free l u) = refl
-
-pub out_is : (k : CurveValue) (m : ℤ) (i b : ℕ) (d : Candidates) (o : Offer) → d ≡ candidates_of k.costs i (cell_at k.cells i) → b ≡ slice_index_or k.costs.present i 0 → o ≡ offer_with k.varied m b d.none 0 → o ≡ offer_of k m i 0
-out_is k m i b d o f g h = h ∙ ap (λ (x : Candidates). offer_with k.varied m b x.none 0) f ∙ ap (λ z. offer_with k.varied m b z 0) (none_of k.costs i (cell_at k.cells i)) ∙ ap (λ (n : ℕ). offer_with k.varied m n (cost_of k.costs i (pos 0)) 0) g
+use Rattle.gap_price.proofs.CurveLaws.{IsBest, IsBestOf, least_of_ways, value_within, slope_within}
 
 -- ---- the cost under the multiplier is that of an asset with another price
 lots_price : (line less t a d m v : ℤ) → ((((line +ℤ t) *ℤ v) +ℤ neg_ℤ less) +ℤ (d *ℤ a)) +ℤ m *ℤ v ≡ (((line +ℤ (t +ℤ m)) *ℤ v) +ℤ neg_ℤ less) +ℤ (d *ℤ a)
@@ -67,76 +33,127 @@ distance_price line less a d m = simp expand (omega (arith, linear))
 
 -- the prices of the asset i under the multiplier
 abbrev line_of : CurveValue → ℤ → ℕ → Varied → ℤ
-line_of k m i Lots = at k.costs.linear i +ℤ (k.costs.lot_price +ℤ m)
-line_of k m i Distance = at k.costs.linear i +ℤ k.costs.lot_price
+line_of k m i varied = at k.costs.linear i +ℤ lot_under varied k.costs m
 
 abbrev away_of : CurveValue → ℤ → Varied → ℤ
-away_of k m Lots = k.costs.distance_price
-away_of k m Distance = k.costs.distance_price +ℤ m
+away_of k m varied = distance_under varied k.costs m
 
 pub priced_is : (k : CurveValue) (m : ℤ) (i : ℕ) (varied : Varied) (v : ℤ) → cost_of k.costs i v +ℤ m *ℤ weight_of varied (lots_at k.costs.present i) v ≡ asset_cost (line_of k m i varied) (at k.costs.bends i) (away_of k m varied) (lots_at k.costs.present i) v
 priced_is k m i Lots v = lots_price (at k.costs.linear i) (at k.costs.bends i *ℤ (v *ℤ v)) k.costs.lot_price (abs_z (v -ℤ lots_at k.costs.present i)) k.costs.distance_price m v
 priced_is k m i Distance v = distance_price ((at k.costs.linear i +ℤ k.costs.lot_price) *ℤ v) (at k.costs.bends i *ℤ (v *ℤ v)) (abs_z (v -ℤ lots_at k.costs.present i)) k.costs.distance_price m
 
+-- an asset with these prices costs so much
+pub cost_is : (k : CurveValue) (m : ℤ) (i : ℕ) (a : AssetCost) → a.linear ≡ at k.costs.linear i +ℤ lot_under k.varied k.costs m → a.bend ≡ at k.costs.bends i → a.price ≡ distance_under k.varied k.costs m → a.present ≡ slice_index_or k.costs.present i 0 → (v : ℕ) → cost_by a v ≡ priced_of k m i v
+cost_is k m i a e f g h v =
+    ap (λ z. asset_cost z a.bend a.price (pos a.present) (pos v)) e
+    ∙ ap (λ z. asset_cost (line_of k m i k.varied) z a.price (pos a.present) (pos v)) f
+    ∙ ap (λ z. asset_cost (line_of k m i k.varied) (at k.costs.bends i) z (pos a.present) (pos v)) g
+    ∙ ap (λ (n : ℕ). asset_cost (line_of k m i k.varied) (at k.costs.bends i) (away_of k m k.varied) (pos n) (pos v)) h
+    ∙ sym (priced_is k m i k.varied (pos v))
+
 -- ---- the cheapest candidate is least
-cheaper_low : (a b : Offer) → ((cheaper a b).value ≤ℤ a.value) × ((cheaper a b).value ≤ℤ b.value)
-cheaper_low a b = low_by (int_lt b.value a.value) (lt_tells b.value a.value)
+cheaper_low : (a b : Candidate) → ((cheaper a b).cost ≤ℤ a.cost) × ((cheaper a b).cost ≤ℤ b.cost)
+cheaper_low a b = low_by (int_lt b.cost a.cost) (lt_tells b.cost a.cost)
   where
-    low_by : (t : Bool) → ((t ≡ true) × (b.value <ℤ a.value)) ⊎ ((t ≡ false) × (a.value ≤ℤ b.value)) → ((if t then b else a).value ≤ℤ a.value) × ((if t then b else a).value ≤ℤ b.value)
+    low_by : (t : Bool) → ((t ≡ true) × (b.cost <ℤ a.cost)) ⊎ ((t ≡ false) × (a.cost ≤ℤ b.cost)) → ((if t then b else a).cost ≤ℤ a.cost) × ((if t then b else a).cost ≤ℤ b.cost)
     low_by true (inl h) = let g = h.1 in (omega (arith, ints), omega (arith, ints))
     low_by true (inr h) = let g = h.0 in cc
     low_by false (inl h) = let g = h.0 in cc
     low_by false (inr h) = let g = h.1 in (omega (arith, ints), omega (arith, ints))
 
-cheaper_one : (a b : Offer) → (cheaper a b ≡ a) ⊎ (cheaper a b ≡ b)
-cheaper_one a b = one_by (int_lt b.value a.value)
+-- a candidate of l to u lots
+record IsAmong (g : ℕ → ℤ) (l u : ℕ) (c : Candidate) : Type 0 where
+  from : l ≤ c.lots
+  to : c.lots ≤ u
+  cost : g c.lots ≡ c.cost
+
+at_among : (g : ℕ → ℤ) (l u v : ℕ) → l ≤ v → v ≤ u → IsAmong g l u (at_lots g v)
+at_among g l u v h k = record { from = h; to = k; cost = refl }
+
+cheaper_among : (g : ℕ → ℤ) (l u : ℕ) (a b : Candidate) → IsAmong g l u a → IsAmong g l u b → IsAmong g l u (cheaper a b)
+cheaper_among g l u a b p q = by_test (int_lt b.cost a.cost)
   where
-    one_by : (t : Bool) → ((if t then b else a) ≡ a) ⊎ ((if t then b else a) ≡ b)
-    one_by true = inr refl
-    one_by false = inl refl
+    by_test : (t : Bool) → IsAmong g l u (if t then b else a)
+    by_test true = q
+    by_test false = p
 
-between_least : (l u b : ℕ) → l ≤ u → l ≤ between l u b
-between_least l u b h = grind (arith, nat_tests)
+-- the cheapest is one of l to u lots, and costs no more than l, than u, and than the present lots between them
+record IsCheapest (g : ℕ → ℤ) (l u b : ℕ) (c : Candidate) : Type 0 where
+  among : IsAmong g l u c
+  first : c.cost ≤ℤ g l
+  last : c.cost ≤ℤ g u
+  inner : l < b → b < u → c.cost ≤ℤ g b
 
-between_most : (l u b : ℕ) → l ≤ u → between l u b ≤ u
-between_most l u b h = grind (arith, nat_tests)
+le_le : (x y z : ℤ) → x ≤ℤ y → y ≤ℤ z → x ≤ℤ z
+le_le x y z h k = omega (arith, ints)
 
-between_inner : (l u b : ℕ) → l < b → b < u → between l u b ≡ b
-between_inner l u b h k = grind (arith, nat_tests)
+cheapest_is : (g : ℕ → ℤ) (l u b : ℕ) → l ≤ u → IsCheapest g l u b (cheapest g l u b)
+cheapest_is g l u b h = by_test (ltb l b && ltb b u) refl
+  where
+    ends_among : IsAmong g l u (cheaper (at_lots g l) (at_lots g u))
+    ends_among = cheaper_among g l u (at_lots g l) (at_lots g u) (at_among g l u l (omega arith) h) (at_among g l u u h (omega arith))
 
-offer_reached : (k : CurveValue) (m : ℤ) (i l u v : ℕ) (o : Offer) → l ≤ v → v ≤ u → o ≡ offer_of k m i v → (n : ℕ) × (l ≤ n) × (n ≤ u) × (priced_of k m i n ≡ o.value) × (weighed_of k i n ≡ o.weight)
-offer_reached k m i l u v o h g e = (v, h, g, ap (λ (x : Offer). x.value) (sym e), ap (λ (x : Offer). x.weight) (sym e))
+    by_test : (t : Bool) → (ltb l b && ltb b u) ≡ t → IsCheapest g l u b (if t then cheaper (cheaper (at_lots g l) (at_lots g u)) (at_lots g b) else cheaper (at_lots g l) (at_lots g u))
+    by_test true e =
+        let A = at_lots g l in
+        let B = at_lots g u in
+        let C = at_lots g b in
+        let r = and_parts (ltb l b) (ltb b u) e in
+        let lb : l < b = ltb-true l b r.0 in
+        let bu : b < u = ltb-true b u r.1 in
+        let p = cheaper_low A B in
+        let q = cheaper_low (cheaper A B) C in
+        record {
+          among = cheaper_among g l u (cheaper A B) C ends_among (at_among g l u b (omega arith) (omega arith));
+          first = le_le _ _ _ q.0 p.0;
+          last = le_le _ _ _ q.0 p.1;
+          inner = λ x y. q.1;
+        }
+    by_test false e =
+        let p = cheaper_low (at_lots g l) (at_lots g u) in
+        record {
+          among = ends_among;
+          first = p.0;
+          last = p.1;
+          inner = λ x y. let i = and_from (ltb l b) (ltb b u) (lt-ltb l b x) (lt-ltb b u y) in cc;
+        }
 
-pub cheapest_best : (k : CurveValue) (m : ℤ) (i l u : ℕ) → pos 0 ≤ℤ at k.costs.bends i → l ≤ u → IsBest (priced_of k m i) (weighed_of k i) l u (cheapest k m i l u).value (cheapest k m i l u).weight
+pub cheapest_most : (g : ℕ → ℤ) (l u b : ℕ) → l ≤ u → (cheapest g l u b).lots ≤ u
+cheapest_most g l u b h = (cheapest_is g l u b h).among.to
+
+pub cheapest_best : (k : CurveValue) (m : ℤ) (i l u : ℕ) → pos 0 ≤ℤ at k.costs.bends i → l ≤ u → IsBest (priced_of k m i) (weighed_of k i) l u (cheapest (priced_of k m i) l u (slice_index_or k.costs.present i 0)).cost (weighed_of k i (cheapest (priced_of k m i) l u (slice_index_or k.costs.present i 0)).lots)
 cheapest_best k m i l u s h =
     let b = slice_index_or k.costs.present i 0 in
-    let w = between l u b in
-    let A = offer_of k m i l in
-    let B = offer_of k m i u in
-    let C = offer_of k m i w in
-    let p = cheaper_low A B in
-    let q = cheaper_low (cheaper A B) C in
-    let r = (cheapest k m i l u).value in
-    let pa : r ≤ℤ priced_of k m i l = le_le _ _ _ q.0 p.0 in
-    let pb : r ≤ℤ priced_of k m i u = le_le _ _ _ q.0 p.1 in
-    let pc : r ≤ℤ priced_of k m i w = q.1 in
+    let c = cheapest_is (priced_of k m i) l u b h in
+    let r = (cheapest (priced_of k m i) l u b).cost in
     record {
-      reached = reached_by (cheaper_one (cheaper A B) C) (cheaper_one A B);
-      below = λ v x y. let e = priced_is k m i k.varied (pos v) in subst (λ (z : ℤ). r ≤ℤ z) (sym e) (cost_least (line_of k m i k.varied) (at k.costs.bends i) (away_of k m k.varied) (pos b) (pos l) (pos u) (pos v) r s (omega (arith, ints)) (omega (arith, ints)) (subst (λ (z : ℤ). r ≤ℤ z) (priced_is k m i k.varied (pos l)) pa) (subst (λ (z : ℤ). r ≤ℤ z) (priced_is k m i k.varied (pos u)) pb) (λ lb bu. subst (λ (z : ℤ). r ≤ℤ z) (priced_is k m i k.varied (pos b)) (subst (λ (n : ℕ). r ≤ℤ priced_of k m i n) (between_inner l u b (omega (arith, ints)) (omega (arith, ints))) pc)));
+      reached = ((cheapest (priced_of k m i) l u b).lots, c.among.from, c.among.to, c.among.cost, refl);
+      below = λ v x y. let e = priced_is k m i k.varied (pos v) in subst (λ (z : ℤ). r ≤ℤ z) (sym e) (cost_least (line_of k m i k.varied) (at k.costs.bends i) (away_of k m k.varied) (pos b) (pos l) (pos u) (pos v) r s (omega (arith, ints)) (omega (arith, ints)) (subst (λ (z : ℤ). r ≤ℤ z) (priced_is k m i k.varied (pos l)) c.first) (subst (λ (z : ℤ). r ≤ℤ z) (priced_is k m i k.varied (pos u)) c.last) (λ lb bu. subst (λ (z : ℤ). r ≤ℤ z) (priced_is k m i k.varied (pos b)) (c.inner (omega (arith, ints)) (omega (arith, ints)))));
     }
-  where
-    le_le : (x y z : ℤ) → x ≤ℤ y → y ≤ℤ z → x ≤ℤ z
-    le_le x y z h k = omega (arith, ints)
-
-    reached_by : (cheapest k m i l u ≡ cheaper (offer_of k m i l) (offer_of k m i u)) ⊎ (cheapest k m i l u ≡ offer_of k m i (between l u (slice_index_or k.costs.present i 0))) → (cheaper (offer_of k m i l) (offer_of k m i u) ≡ offer_of k m i l) ⊎ (cheaper (offer_of k m i l) (offer_of k m i u) ≡ offer_of k m i u) → (n : ℕ) × (l ≤ n) × (n ≤ u) × (priced_of k m i n ≡ (cheapest k m i l u).value) × (weighed_of k i n ≡ (cheapest k m i l u).weight)
-    reached_by (inl e) (inl f) = offer_reached k m i l u l (cheapest k m i l u) (omega arith) h (e ∙ f)
-    reached_by (inl e) (inr f) = offer_reached k m i l u u (cheapest k m i l u) h (omega arith) (e ∙ f)
-    reached_by (inr e) f = offer_reached k m i l u (between l u (slice_index_or k.costs.present i 0)) (cheapest k m i l u) (between_least l u (slice_index_or k.costs.present i 0) h) (between_most l u (slice_index_or k.costs.present i 0) h) e
 
 pub offer_best : (k : CurveValue) (m : ℤ) (i : ℕ) (cell : Cell) → IsCell cell → pos 0 ≤ℤ at k.costs.bends i → IsBestOf cell (priced_of k m i) (weighed_of k i) (least_offer k m i cell).value (least_offer k m i cell).weight
 offer_best k m i Out c s = tt
 offer_best k m i (Held l u) c s = cheapest_best k m i l u s c.1
 offer_best k m i (Free l u) c s = cheapest_best k m i l u s c.1
+
+-- ---- offers at equal costs are equal
+cheapest_same : (f g : ℕ → ℤ) (l u b : ℕ) → ((v : ℕ) → f v ≡ g v) → cheapest f l u b ≡ cheapest g l u b
+cheapest_same f g l u b e =
+    let c : (v : ℕ) → at_lots f v ≡ at_lots g v = λ v. ap (λ z. record { lots = v; cost = z }) (e v) in
+    ap (λ (x : Candidate). if ltb l b && ltb b u then cheaper (cheaper x (at_lots f u)) (at_lots f b) else cheaper x (at_lots f u)) (c l)
+    ∙ ap (λ (x : Candidate). if ltb l b && ltb b u then cheaper (cheaper (at_lots g l) x) (at_lots f b) else cheaper (at_lots g l) x) (c u)
+    ∙ ap (λ (x : Candidate). if ltb l b && ltb b u then cheaper (cheaper (at_lots g l) (at_lots g u)) x else cheaper (at_lots g l) (at_lots g u)) (c b)
+
+held_same : (varied : Varied) (b : ℕ) (f g : ℕ → ℤ) (cell : Cell) → ((v : ℕ) → f v ≡ g v) → offer_held varied b f cell ≡ offer_held varied b g cell
+held_same varied b f g Out e = refl
+held_same varied b f g (Held l u) e = ap (offer_with varied b) (cheapest_same f g l u b e)
+held_same varied b f g (Free l u) e = ap (offer_with varied b) (cheapest_same f g l u b e)
+
+pub held_is : (k : CurveValue) (m : ℤ) (i b : ℕ) (f : ℕ → ℤ) (cell : Cell) (o : Offer) → ((v : ℕ) → f v ≡ priced_of k m i v) → b ≡ slice_index_or k.costs.present i 0 → o ≡ offer_held k.varied b f cell → o ≡ least_offer k m i cell
+held_is k m i b f cell o e g h = h ∙ held_same k.varied b f (priced_of k m i) cell e ∙ ap (λ (n : ℕ). offer_held k.varied n (priced_of k m i) cell) g
+
+pub out_is : (k : CurveValue) (m : ℤ) (i b : ℕ) (f : ℕ → ℤ) (o : Offer) → ((v : ℕ) → f v ≡ priced_of k m i v) → b ≡ slice_index_or k.costs.present i 0 → o ≡ offer_with k.varied b (at_lots f 0) → o ≡ none_offer k m i
+out_is k m i b f o e g h = h ∙ ap (λ z. offer_with k.varied b (record { lots = 0; cost = z })) (e 0) ∙ ap (λ (n : ℕ). offer_with k.varied n (at_lots (priced_of k m i) 0)) g
 
 -- ---- sizes
 away_small : (v b : ℕ) → v ≤ 10000 → b ≤ 10000 → unsigned_abs (abs_z (pos v -ℤ pos b)) ≤ 10000
@@ -181,14 +198,34 @@ best_small k m i n l u value weight c h p q best =
 
 pub offer_small : (k : CurveValue) (m : ℤ) (i n : ℕ) (cell : Cell) → AreCosts k.costs n → i < n → unsigned_abs (varied_price k +ℤ m) ≤ 1001000000000000000000000000000 → IsCell cell → (unsigned_abs (least_offer k m i cell).value ≤ 23000000000000000000000000000000000) × (unsigned_abs (least_offer k m i cell).weight ≤ 10000)
 offer_small k m i n Out c h p v = (omega (arith, ints), omega (arith, ints))
-offer_small k m i n (Held l u) c h p v = best_small k m i n l u (cheapest k m i l u).value (cheapest k m i l u).weight c h p v.2 (cheapest_best k m i l u (c.bends_signs i h) v.1)
-offer_small k m i n (Free l u) c h p v = best_small k m i n l u (cheapest k m i l u).value (cheapest k m i l u).weight c h p v.2 (cheapest_best k m i l u (c.bends_signs i h) v.1)
+offer_small k m i n (Held l u) c h p v = best_small k m i n l u (least_offer k m i (Held l u)).value (least_offer k m i (Held l u)).weight c h p v.2 (cheapest_best k m i l u (c.bends_signs i h) v.1)
+offer_small k m i n (Free l u) c h p v = best_small k m i n l u (least_offer k m i (Free l u)).value (least_offer k m i (Free l u)).weight c h p v.2 (cheapest_best k m i l u (c.bends_signs i h) v.1)
+
+pub held_sizes : (k : CurveValue) (m : ℤ) (i : ℕ) (o : Offer) → AreCosts k.costs (length k.cells) → i < length k.cells → unsigned_abs (varied_price k +ℤ m) ≤ 1001000000000000000000000000000 → IsCell (cell_at k.cells i) → o ≡ least_offer k m i (cell_at k.cells i) → (unsigned_abs o.value ≤ 30000000000000000000000000000000000) × (unsigned_abs o.weight ≤ 20000)
+held_sizes k m i o c h p v e =
+    let s = offer_small k m i (length k.cells) (cell_at k.cells i) c h p v in
+    let a = s.0 in
+    let b = s.1 in
+    (subst (λ (x : Offer). unsigned_abs x.value ≤ 30000000000000000000000000000000000) (sym e) (omega arith), subst (λ (x : Offer). unsigned_abs x.weight ≤ 20000) (sym e) (omega arith))
+
+pub out_sizes : (k : CurveValue) (m : ℤ) (i : ℕ) (o : Offer) → AreCosts k.costs (length k.cells) → i < length k.cells → unsigned_abs (varied_price k +ℤ m) ≤ 1001000000000000000000000000000 → o ≡ none_offer k m i → (unsigned_abs o.value ≤ 30000000000000000000000000000000000) × (unsigned_abs o.weight ≤ 20000)
+out_sizes k m i o c h p e =
+    let a = priced_small k m i (length k.cells) 0 c h p (omega arith) in
+    let b = weighed_small k i 0 (c.present_most i) (omega arith) in
+    (subst (λ (x : Offer). unsigned_abs x.value ≤ 30000000000000000000000000000000000) (sym e) (omega arith), subst (λ (x : Offer). unsigned_abs x.weight ≤ 20000) (sym e) (omega arith))
+
+-- what the offers at a place tell of the ways
+pub held_tells : (k : CurveValue) (m : ℤ) (i j : ℕ) (o : Offer) → j ≡ i → o ≡ least_offer k m i (cell_at k.cells i) → (held_value k m j ≡ o.value) × (held_weight k m j ≡ o.weight)
+held_tells k m i j o e p = (ap (held_value k m) e ∙ ap (λ (x : Offer). x.value) (sym p), ap (held_weight k m) e ∙ ap (λ (x : Offer). x.weight) (sym p))
+
+pub out_tells : (k : CurveValue) (m : ℤ) (i j : ℕ) (o : Offer) → j ≡ i → o ≡ none_offer k m i → (out_value k m j ≡ o.value) × (out_weight k m j ≡ o.weight)
+out_tells k m i j o e p = (ap (out_value k m) e ∙ ap (λ (x : Offer). x.value) (sym p), ap (out_weight k m) e ∙ ap (λ (x : Offer). x.weight) (sym p))
 
 -- ---- what a whole curve says
 pub tabled_none : (k : CurveValue) (m : ℤ) (held out held_weights out_weights : List ℤ) → AreTabled k m 0 held out held_weights out_weights
 tabled_none k m held out held_weights out_weights = record { held_are = λ i h. absurd (omega arith); out_are = λ i h. absurd (omega arith); held_weigh = λ i h. absurd (omega arith); out_weigh = λ i h. absurd (omega arith) }
 
-pub tabled_more : (k : CurveValue) (m : ℤ) (i j : ℕ) (held out held_weights out_weights : List ℤ) (holding leaving : Offer) → j ≡ i → i < length held → i < length out → i < length held_weights → i < length out_weights → AreTabled k m i held out held_weights out_weights → holding ≡ least_offer k m i (cell_at k.cells i) → leaving ≡ offer_of k m i 0 → AreTabled k m (i + 1) (slice_set held j holding.value) (slice_set out j leaving.value) (slice_set held_weights j holding.weight) (slice_set out_weights j leaving.weight)
+pub tabled_more : (k : CurveValue) (m : ℤ) (i j : ℕ) (held out held_weights out_weights : List ℤ) (holding leaving : Offer) → j ≡ i → i < length held → i < length out → i < length held_weights → i < length out_weights → AreTabled k m i held out held_weights out_weights → holding ≡ least_offer k m i (cell_at k.cells i) → leaving ≡ none_offer k m i → AreTabled k m (i + 1) (slice_set held j holding.value) (slice_set out j leaving.value) (slice_set held_weights j holding.weight) (slice_set out_weights j leaving.weight)
 tabled_more k m i j held out held_weights out_weights holding leaving e h1 h2 h3 h4 t p q = record {
   held_are = table_more (held_value k m) held i j holding.value e h1 t.held_are (ap (λ (x : Offer). x.value) p);
   out_are = table_more (out_value k m) out i j leaving.value e h2 t.out_are (ap (λ (x : Offer). x.value) q);
@@ -215,6 +252,9 @@ pub least_tabled : (k : CurveValue) (m : ℤ) (held out held_weights out_weights
 least_tabled k m held out held_weights out_weights value slope valid c t least =
     let best : (i : ℕ) → i < length k.cells → IsBestOf (cell_at k.cells i) (priced_of k m i) (weighed_of k i) (at held i) (at held_weights i) = λ i l. subst (λ (z : ℤ). IsBestOf (cell_at k.cells i) (priced_of k m i) (weighed_of k i) z (at held_weights i)) (sym (t.held_are i l)) (subst (λ (z : ℤ). IsBestOf (cell_at k.cells i) (priced_of k m i) (weighed_of k i) (held_value k m i) z) (sym (t.held_weigh i l)) (offer_best k m i (cell_at k.cells i) (valid.each i) (c.bends_signs i l))) in
     least_of_ways k m (at held) (at out) (at held_weights) (at out_weights) value slope valid best t.out_are t.out_weigh least
+
+pub least_shown : (k : CurveValue) (m : ℤ) (value slope : ℤ) → AreCells k.cells → AreCosts k.costs (length k.cells) → IsLeastWay k.cells (held_value k m) (out_value k m) (held_weight k m) (out_weight k m) k.fewest k.most value slope → IsLeastAt k m value slope
+least_shown k m value slope valid c least = least_of_ways k m (held_value k m) (out_value k m) (held_weight k m) (out_weight k m) value slope valid (λ i l. offer_best k m i (cell_at k.cells i) (valid.each i) (c.bends_signs i l)) (λ i l. refl) (λ i l. refl) least
 
 pub least_sizes : (k : CurveValue) (m value slope : ℤ) → AreCells k.cells → length k.cells ≤ 256 → AreCosts k.costs (length k.cells) → unsigned_abs (varied_price k +ℤ m) ≤ 1001000000000000000000000000000 → IsLeastAt k m value slope → (unsigned_abs value ≤ 256 * 23000000000000000000000000000000000) × (unsigned_abs slope ≤ 256 * 10000)
 least_sizes k m value slope valid few c p least =

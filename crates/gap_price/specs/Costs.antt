@@ -1,6 +1,6 @@
 -- What the lots of single assets cost. Own to portgap.
 
-use Rattle.std.specs.Prelude.{◌≡◌, ℕ, ◌*◌, ◌^◌, ◌≤◌, ℤ, pos, ◌+ℤ◌, ◌-ℤ◌, ◌*ℤ◌, ◌≤ℤ◌}
+use Rattle.std.specs.Prelude.{◌≡◌, ℕ, ◌*◌, ◌^◌, ◌≤◌, ℤ, ◌+ℤ◌, ◌-ℤ◌, ◌*ℤ◌, ◌≤ℤ◌}
 use Rattle.gap_base.specs.Sums.{abs_z}
 
 -- the greatest sizes of an asset's own price of a lot, of what a square takes off, and of a price that all assets share

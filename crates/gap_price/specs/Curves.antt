@@ -1,6 +1,6 @@
 -- The least cost of a part's lists under a multiplier. Own to portgap.
 
-use Rattle.std.specs.Prelude.{◌≡◌, ℕ, List, length, slice_index_or, ℤ, pos, ◌+ℤ◌, ◌-ℤ◌, ◌*ℤ◌, ◌≤ℤ◌}
+use Rattle.std.specs.Prelude.{◌≡◌, ℕ, List, length, ℤ, ◌+ℤ◌, ◌-ℤ◌, ◌*ℤ◌, ◌≤ℤ◌}
 use Rattle.gap_base.specs.Sums.{sum_below, at, abs_z}
 use Rattle.gap_base.specs.Lots.{lots_at}
 use Rattle.gap_box.specs.declared.cell.Cell.{Cell}
@@ -47,6 +47,15 @@ curve_with c varied cells fewest most =
 abbrev pub price_by : Varied → CostsValue → ℤ
 price_by Lots c = c.lot_price
 price_by Distance c = c.distance_price
+
+-- the price of a lot and that of a lot of distance that all assets share, under a multiplier
+abbrev pub lot_under : Varied → CostsValue → ℤ → ℤ
+lot_under Lots c multiplier = c.lot_price +ℤ multiplier
+lot_under Distance c multiplier = c.lot_price
+
+abbrev pub distance_under : Varied → CostsValue → ℤ → ℤ
+distance_under Lots c multiplier = c.distance_price
+distance_under Distance c multiplier = c.distance_price +ℤ multiplier
 
 -- what a unit of the multiplier adds to the cost of v lots where b are present: v, or the distance of v from b
 abbrev pub weight_of : Varied → ℤ → ℤ → ℤ

@@ -3,17 +3,18 @@
 ghost use Rattle.std.specs.Prelude.{◌≡◌, ℕ, ◌*◌, ◌<◌, ◌≤◌, length, slice_index_or, ℤ, pos, ◌+ℤ◌, ◌-ℤ◌, ◌*ℤ◌, ◌≤ℤ◌, unsigned_abs};
 ghost use Rattle.gap_base.specs.Sums.{at, abs_z};
 ghost use Rattle.gap_price.specs.Costs.{asset_cost, most_linear, most_bend, most_price};
+ghost use Rattle.gap_price.specs.Curves.{costs_with, price_by, lot_under, distance_under};
 
-use crate::costs::Costs;
+use crate::costs::{Costs, Varied};
 
-/// What the lots of one asset cost: `linear` for each, less `bend` times the square, and `price` for each lot of distance
-/// from the `present` lots.
+/// What the lots of one asset cost under a multiplier: `linear` for each, less `bend` times the square, and `price` for
+/// each lot of distance from the `present` lots.
 #[derive(Drop)]
 pub(crate) struct AssetCost {
     linear: i128,
     bend: i128,
     price: i128,
-    present: u16,
+    pub(crate) present: u16,
     ghost linear_small: { unsigned_abs linear ≤ 1201000000000000000000000000000 },
     ghost bend_small: { unsigned_abs bend ≤ most_bend },
     ghost bend_sign: { pos 0 ≤ℤ bend },
@@ -41,7 +42,7 @@ fn bend_at(costs: &Costs<'_>, i: u16) -> i128
 }
 
 /// The present lots of asset `i`.
-pub(crate) fn present_at(costs: &Costs<'_>, i: u16) -> u16
+fn present_at(costs: &Costs<'_>, i: u16) -> u16
     requires { i < length costs.now.present.now }
     ensures value { result ≡ slice_index_or costs.now.present.now i 0 }
     ensures most { result ≤ 10000 }
@@ -49,20 +50,45 @@ pub(crate) fn present_at(costs: &Costs<'_>, i: u16) -> u16
     costs.present.get(i)
 }
 
-/// What the lots of asset `i` cost.
-pub(crate) fn asset_at(costs: &Costs<'_>, i: u16) -> AssetCost
+/// The price of each lot that all assets share, under the multiplier.
+fn lot_price(costs: &Costs<'_>, varied: Varied, multiplier: i128) -> i128
+    requires { unsigned_abs (price_by varied (costs_with costs.now) +ℤ multiplier) ≤ most_price }
+    ensures value { result ≡ lot_under varied (costs_with costs.now) multiplier }
+    ensures small { unsigned_abs result ≤ most_price }
+{
+    match varied {
+        Varied::Lots => costs.lot_price + multiplier,
+        Varied::Distance => costs.lot_price,
+    }
+}
+
+/// The price of each lot of distance, under the multiplier.
+fn distance_price(costs: &Costs<'_>, varied: Varied, multiplier: i128) -> i128
+    requires { unsigned_abs (price_by varied (costs_with costs.now) +ℤ multiplier) ≤ most_price }
+    ensures value { result ≡ distance_under varied (costs_with costs.now) multiplier }
+    ensures small { unsigned_abs result ≤ most_price }
+{
+    match varied {
+        Varied::Lots => costs.distance_price,
+        Varied::Distance => costs.distance_price + multiplier,
+    }
+}
+
+/// What the lots of asset `i` cost under the multiplier.
+pub(crate) fn asset_at(costs: &Costs<'_>, varied: Varied, multiplier: i128, i: u16) -> AssetCost
     requires linear { i < length costs.now.linear.now }
     requires bends { i < length costs.now.bends.now }
     requires present { i < length costs.now.present.now }
-    ensures linear { result.linear ≡ at costs.now.linear.now i +ℤ costs.now.lot_price }
+    requires price { unsigned_abs (price_by varied (costs_with costs.now) +ℤ multiplier) ≤ most_price }
+    ensures linear { result.linear ≡ at costs.now.linear.now i +ℤ lot_under varied (costs_with costs.now) multiplier }
     ensures bend { result.bend ≡ at costs.now.bends.now i }
-    ensures price { result.price ≡ costs.now.distance_price }
+    ensures price { result.price ≡ distance_under varied (costs_with costs.now) multiplier }
     ensures present { result.present ≡ slice_index_or costs.now.present.now i 0 }
 {
     AssetCost {
-        linear: linear_at(costs, i) + costs.lot_price,
+        linear: linear_at(costs, i) + lot_price(costs, varied, multiplier),
         bend: bend_at(costs, i),
-        price: costs.distance_price,
+        price: distance_price(costs, varied, multiplier),
         present: present_at(costs, i),
     }
 }

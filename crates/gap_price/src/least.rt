@@ -1,19 +1,19 @@
 //! The least cost of a part's lists, for any multiplier.
 
-ghost use Rattle.std.specs.Prelude.{◌≡◌, ℕ, ◌*◌, ◌<◌, ◌≤◌, ◌↔◌, length, slice_index_or, ℤ, pos, ◌+ℤ◌, ◌*ℤ◌, unsigned_abs, IfSome, IsNone, IsFalse};
+ghost use Rattle.std.specs.Prelude.{◌≡◌, ℕ, ◌+◌, ◌-◌, ◌*◌, ◌<◌, ◌≤◌, ◌↔◌, length, slice_index_or, ℤ, pos, ◌+ℤ◌, ◌*ℤ◌, unsigned_abs, IfSome, IsNone, IsFalse};
 ghost use Rattle.gap_box.specs.Parts.{can_meet};
-ghost use Rattle.gap_relax.specs.Choices.{cell_at};
+ghost use Rattle.gap_relax.specs.SoFar.{HasSeen};
 ghost use Rattle.gap_price.specs.Costs.{most_price};
-ghost use Rattle.gap_price.specs.Curves.{costs_with, curve_with, varied_price, IsLeastAt};
-ghost use Rattle.gap_price.specs.Offers.{candidates_of, AreSmall, least_offer, offer_of, AreTabled};
+ghost use Rattle.gap_price.specs.Curves.{curve_with, varied_price, IsLeastAt};
+ghost use Rattle.gap_price.specs.Offers.{cost_by, priced_of, ways_of, AreTabled};
 ghost use Rattle.gap_price.specs.CurveOf.{curve_of};
 
-use crate::candidates::{Candidates, table_of};
+use crate::asset::{AssetCost, asset_at};
 use crate::costs::{Costs, Varied};
 use crate::curve::CostCurve;
-use crate::offer::{Offer, cheapest, offer_at};
+use crate::offer::{held_offer, out_offer};
 use gap_box::{Cell, Part};
-use gap_relax::{Chosen, least_with_slope};
+use gap_relax::{Chosen, LeastRow, least_with_slope};
 
 impl<'a> CostCurve<'a> {
     /// The curve of these costs over the part. None exactly where the count can't be met. It takes no memory, and costs
@@ -35,21 +35,82 @@ impl<'a> CostCurve<'a> {
         if !part.count_within(fewest, most) {
             return None;
         }
-        let table = table_of(&costs, part);
         Some(CostCurve {
             costs,
             varied,
             part,
             fewest,
             most,
-            table,
+            held: part.held_cells(),
         })
     }
 
     /// The least cost at the multiplier over the lists, with the weight of one of them that has it: the slope of a line
-    /// that is nowhere below the curve. It takes no memory, and costs O(N log N) at most, O(N) on average.
+    /// that is nowhere below the curve. It takes no memory. Where at most 32 of the free cells may be held it costs one
+    /// pass over the cells, in each of which mostly a few products and one comparison; else O(N log N) at most, O(N) on
+    /// average.
     pub fn at(&self, multiplier: i128) -> Chosen
         requires multiplier { unsigned_abs multiplier ≤ most_price }
+        requires price { unsigned_abs (varied_price (curve_of self.now) +ℤ multiplier) ≤ most_price }
+        ensures least { IsLeastAt (curve_of self.now) multiplier result.value result.slope }
+        ensures value_small { unsigned_abs result.value ≤ 256 * 23000000000000000000000000000000000 }
+        ensures slope_small { unsigned_abs result.slope ≤ 256 * 10000 }
+    {
+        if self.most.saturating_sub(self.held) <= 32 {
+            return self.in_one_pass(multiplier);
+        }
+        self.by_tables(multiplier)
+    }
+
+    /// The same, where at most 32 of the free cells may be held.
+    fn in_one_pass(&self, multiplier: i128) -> Chosen
+        requires price { unsigned_abs (varied_price (curve_of self.now) +ℤ multiplier) ≤ most_price }
+        requires few { self.now.most - self.now.held ≤ 32 }
+        ensures least { IsLeastAt (curve_of self.now) multiplier result.value result.slope }
+        ensures value_small { unsigned_abs result.value ≤ 256 * 23000000000000000000000000000000000 }
+        ensures slope_small { unsigned_abs result.slope ≤ 256 * 10000 }
+    {
+        let mut row = LeastRow::new(
+            self.fewest.saturating_sub(self.held),
+            self.most.saturating_sub(self.held),
+        );
+        for i in 0..self.part.len() {
+            self.hand(multiplier, i, &mut row);
+        }
+        row.chosen()
+    }
+
+    /// Hands the row the cell at place `i`, with what it costs and weighs at the multiplier.
+    fn hand(&self, multiplier: i128, i: u16, row: &mut LeastRow)
+        requires price { unsigned_abs (varied_price (curve_of self.now) +ℤ multiplier) ≤ most_price }
+        requires there { i < length self.now.part.now }
+        requires room { i < 256 }
+        requires next { row.old.seen ≡ i }
+        ensures next { row.new.seen ≡ i + 1 }
+        ensures least { HasSeen (ways_of (curve_of self.now) multiplier) row.old
+            → HasSeen (ways_of (curve_of self.now) multiplier) row.new }
+    {
+        let asset = self.asset_at(multiplier, i);
+        let cell = self.part.cell(i);
+        match cell {
+            Cell::Out => {
+                let leaving = out_offer(&asset, self.varied);
+                row.leave(leaving.value, leaving.weight);
+            }
+            Cell::Held { .. } => {
+                let holding = held_offer(&asset, self.varied, cell);
+                row.hold(holding.value, holding.weight);
+            }
+            Cell::Free { .. } => {
+                let holding = held_offer(&asset, self.varied, cell);
+                let leaving = out_offer(&asset, self.varied);
+                row.offer(holding.value, holding.weight, leaving.value, leaving.weight);
+            }
+        }
+    }
+
+    /// The same least for any number of cells.
+    fn by_tables(&self, multiplier: i128) -> Chosen
         requires price { unsigned_abs (varied_price (curve_of self.now) +ℤ multiplier) ≤ most_price }
         ensures least { IsLeastAt (curve_of self.now) multiplier result.value result.slope }
         ensures value_small { unsigned_abs result.value ≤ 256 * 23000000000000000000000000000000000 }
@@ -78,7 +139,6 @@ impl<'a> CostCurve<'a> {
         held_weights: &mut [i32],
         out_weights: &mut [i32],
     ) -> Chosen
-        requires multiplier { unsigned_abs multiplier ≤ most_price }
         requires price { unsigned_abs (varied_price (curve_of self.now) +ℤ multiplier) ≤ most_price }
         requires held_length { length held.old ≡ length self.now.part.now }
         requires out_length { length out.old ≡ length self.now.part.now }
@@ -113,7 +173,7 @@ impl<'a> CostCurve<'a> {
         held_weights: &mut [i32],
         out_weights: &mut [i32],
     )
-        requires multiplier { unsigned_abs multiplier ≤ most_price }
+        requires price { unsigned_abs (varied_price (curve_of self.now) +ℤ multiplier) ≤ most_price }
         requires held_length { length held.old ≡ length self.now.part.now }
         requires out_length { length out.old ≡ length self.now.part.now }
         requires held_weights_length { length held_weights.old ≡ length self.now.part.now }
@@ -122,8 +182,9 @@ impl<'a> CostCurve<'a> {
             held_weights.new out_weights.new }
     {
         for i in 0..self.part.len() {
-            let holding = self.held_offer(multiplier, i);
-            let leaving = self.out_offer(multiplier, i);
+            let asset = self.asset_at(multiplier, i);
+            let holding = held_offer(&asset, self.varied, self.part.cell(i));
+            let leaving = out_offer(&asset, self.varied);
             let place = usize::from(i);
             held[place] = holding.value;
             out[place] = leaving.value;
@@ -132,55 +193,14 @@ impl<'a> CostCurve<'a> {
         }
     }
 
-    /// What the candidates at place `i` cost without the multiplier.
-    fn table_at(&self, i: u16) -> Candidates
-        requires { i < length self.now.part.now }
-        ensures value { result ≡ candidates_of (costs_with self.now.costs) i (cell_at self.now.part.now i) }
-        ensures small { AreSmall result }
-    {
-        let _length = self.part.len();
-        self.table[usize::from(i)]
-    }
-
-    /// The present lots of asset `i`.
-    fn present_at(&self, i: u16) -> u16
-        requires { i < length self.now.part.now }
-        ensures value { result ≡ slice_index_or self.now.costs.present.now i 0 }
-        ensures most { result ≤ 10000 }
-    {
-        let _length = self.part.len();
-        self.costs.present.get(i)
-    }
-
-    /// What holding the asset of the cell at place `i` costs at least; nothing where it is out.
-    fn held_offer(&self, multiplier: i128, i: u16) -> Offer
-        requires multiplier { unsigned_abs multiplier ≤ most_price }
+    /// What the lots of asset `i` cost under the multiplier.
+    fn asset_at(&self, multiplier: i128, i: u16) -> AssetCost
+        requires price { unsigned_abs (varied_price (curve_of self.now) +ℤ multiplier) ≤ most_price }
         requires there { i < length self.now.part.now }
-        ensures offer { result ≡ least_offer (curve_of self.now) multiplier i (cell_at self.now.part.now i) }
-        ensures weight_small { unsigned_abs result.weight ≤ 10000 }
+        ensures cost { (v : ℕ) → cost_by result v ≡ priced_of (curve_of self.now) multiplier i v }
+        ensures present { result.present ≡ slice_index_or self.now.costs.present.now i 0 }
     {
-        let candidates = self.table_at(i);
-        let present = self.present_at(i);
-        match self.part.cell(i) {
-            Cell::Out => Offer {
-                value: 0,
-                weight: 0,
-            },
-            Cell::Held { l, u } => cheapest(candidates, multiplier, self.varied, l, u, present),
-            Cell::Free { l, u } => cheapest(candidates, multiplier, self.varied, l, u, present),
-        }
-    }
-
-    /// What not holding the asset at place `i` costs.
-    fn out_offer(&self, multiplier: i128, i: u16) -> Offer
-        requires multiplier { unsigned_abs multiplier ≤ most_price }
-        requires there { i < length self.now.part.now }
-        ensures offer { result ≡ offer_of (curve_of self.now) multiplier i 0 }
-        ensures weight_small { unsigned_abs result.weight ≤ 10000 }
-    {
-        let candidates = self.table_at(i);
-        let present = self.present_at(i);
-        offer_at(candidates.none, multiplier, self.varied, 0, present)
+        asset_at(&self.costs, self.varied, multiplier, i)
     }
 }
 

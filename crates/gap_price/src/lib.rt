@@ -2,8 +2,9 @@
 //! |v - present_i|` over the lists of a part that hold from k1 to k2 assets, under a multiplier that adds to the price
 //! of each lot or of each lot of distance.
 //!
-//! What the candidates of a cell cost without the multiplier is formed once for a part, in a `CostCurve`. A value under
-//! a multiplier then comes with its slope: the weight of a list that has it. Nothing here takes memory.
+//! A `CostCurve` keeps what it was made from. A value under a multiplier is formed anew from the prices that have the
+//! multiplier in them, mostly in one pass over the cells, and comes with its slope: the weight of a list that has it.
+//! Nothing here takes memory.
 #![tactic(auto)]
 
 mod asset;

@@ -1,13 +1,14 @@
-//! What holding an asset costs more than not holding it under a multiplier.
+//! What holding an asset and not holding it cost under a multiplier.
 
-ghost use Rattle.std.specs.Prelude.{◌≡◌, ℕ, ◌<◌, ◌≤◌, ℤ, pos, ◌+ℤ◌, ◌-ℤ◌, ◌*ℤ◌, unsigned_abs};
-ghost use Rattle.gap_price.specs.Costs.{most_price};
+ghost use Rattle.std.specs.Prelude.{◌≡◌, ℕ, ◌≤◌, ℤ, pos, unsigned_abs};
+ghost use Rattle.gap_box.specs.Cells.{IsCell};
 ghost use Rattle.gap_price.specs.Curves.{weight_of};
-ghost use Rattle.gap_price.specs.Offers.{between, offer_with, cheaper, AreSmall};
+ghost use Rattle.gap_price.specs.Offers.{at_lots, cost_by, offer_held, offer_with};
 
-use crate::asset::distance;
-use crate::candidates::{Candidates, middle_of};
+use crate::asset::{AssetCost, distance};
+use crate::candidates::{Candidate, candidate_at, cheapest_between};
 use crate::costs::Varied;
+use gap_box::Cell;
 
 /// What some lots of an asset cost under a multiplier, and what a unit of the multiplier adds to that.
 #[derive(Clone, Copy)]
@@ -20,8 +21,7 @@ pub(crate) struct Offer {
 fn weight_at(varied: Varied, v: u16, present: u16) -> i32
     requires lots { v ≤ 10000 }
     requires present { present ≤ 10000 }
-    ensures value { result ≡ weight_of varied (pos present) (pos v) }
-    ensures small { unsigned_abs result ≤ 10000 }
+    ensures { result ≡ weight_of varied (pos present) (pos v) }
 {
     match varied {
         Varied::Lots => i32::from(v),
@@ -29,62 +29,36 @@ fn weight_at(varied: Varied, v: u16, present: u16) -> i32
     }
 }
 
-/// What the multiplier adds to a cost of this weight.
-fn weighed(multiplier: i128, weight: i32) -> i128
-    requires multiplier { unsigned_abs multiplier ≤ most_price }
-    requires weight { unsigned_abs weight ≤ 10000 }
-    ensures value { result ≡ multiplier *ℤ weight }
-    ensures small { unsigned_abs result ≤ 10010000000000000000000000000000000 }
-{
-    multiplier * i128::from(weight)
-}
-
-/// The offer of `v` lots, which cost `cost` without the multiplier.
-pub(crate) fn offer_at(cost: i128, multiplier: i128, varied: Varied, v: u16, present: u16) -> Offer
-    requires cost { unsigned_abs cost ≤ 23000000000000000000000000000000000 }
-    requires multiplier { unsigned_abs multiplier ≤ most_price }
-    requires lots { v ≤ 10000 }
+/// The offer of a candidate.
+fn offer_of(candidate: Candidate, varied: Varied, present: u16) -> Offer
+    requires lots { candidate.lots ≤ 10000 }
     requires present { present ≤ 10000 }
-    ensures offer { result ≡ offer_with varied multiplier present cost v }
-    ensures weight_small { unsigned_abs result.weight ≤ 10000 }
+    ensures { result ≡ offer_with varied present candidate }
 {
-    let weight = weight_at(varied, v, present);
     Offer {
-        value: cost + weighed(multiplier, weight),
-        weight,
+        value: candidate.cost,
+        weight: weight_at(varied, candidate.lots, present),
     }
 }
 
-/// The cheaper of two offers.
-pub(crate) fn cheaper_of(a: Offer, b: Offer) -> Offer
-    ensures { result ≡ cheaper a b }
+/// What holding the asset of a cell costs at least; nothing where it is out.
+pub(crate) fn held_offer(asset: &AssetCost, varied: Varied, cell: Cell) -> Offer
+    requires { IsCell cell }
+    ensures { result ≡ offer_held varied asset.now.present (cost_by asset.now) cell }
 {
-    if b.value < a.value { b } else { a }
+    match cell {
+        Cell::Out => Offer {
+            value: 0,
+            weight: 0,
+        },
+        Cell::Held { l, u } => offer_of(cheapest_between(asset, l, u), varied, asset.present),
+        Cell::Free { l, u } => offer_of(cheapest_between(asset, l, u), varied, asset.present),
+    }
 }
 
-/// The cheapest of the offers of the candidates of `l` to `u` lots.
-pub(crate) fn cheapest(
-    candidates: Candidates,
-    multiplier: i128,
-    varied: Varied,
-    l: u16,
-    u: u16,
-    present: u16,
-) -> Offer
-    requires small { AreSmall candidates }
-    requires multiplier { unsigned_abs multiplier ≤ most_price }
-    requires order { l ≤ u }
-    requires most { u ≤ 10000 }
-    requires present { present ≤ 10000 }
-    ensures offer { result ≡ cheaper
-        (cheaper (offer_with varied multiplier present candidates.first l)
-        (offer_with varied multiplier present candidates.last u))
-        (offer_with varied multiplier present candidates.middle (between l u present)) }
-    ensures weight_small { unsigned_abs result.weight ≤ 10000 }
+/// What not holding the asset costs.
+pub(crate) fn out_offer(asset: &AssetCost, varied: Varied) -> Offer
+    ensures { result ≡ offer_with varied asset.now.present (at_lots (cost_by asset.now) 0) }
 {
-    let first = offer_at(candidates.first, multiplier, varied, l, present);
-    let last = offer_at(candidates.last, multiplier, varied, u, present);
-    let middle = middle_of(present, l, u);
-    let inner = offer_at(candidates.middle, multiplier, varied, middle, present);
-    cheaper_of(cheaper_of(first, last), inner)
+    offer_of(candidate_at(asset, 0), varied, asset.present)
 }

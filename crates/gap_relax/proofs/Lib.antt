@@ -5,3 +5,6 @@ pub mod Places
 pub mod Prices
 pub mod RowLaws
 pub mod WayLaws
+pub mod LeastLaws
+pub mod ExtraLaws
+pub mod SeenLaws

@@ -86,7 +86,7 @@ held_two (Free l u) true e = refl
 held_two (Free l u) false e = refl
 
 -- a way holds the cells that must be held, and some free ones
-choice_counts : (cells : List Cell) (held : ℕ → Bool) → ((i : ℕ) → i < length cells → allows (cell_at cells i) (held i) ≡ true) → count_if (length cells) held ≡ helds cells + count_if (length cells) (λ i. is_free (cell_at cells i) && held i)
+pub choice_counts : (cells : List Cell) (held : ℕ → Bool) → ((i : ℕ) → i < length cells → allows (cell_at cells i) (held i) ≡ true) → count_if (length cells) held ≡ helds cells + count_if (length cells) (λ i. is_free (cell_at cells i) && held i)
 choice_counts cells held h =
     let a = count_two (length cells) held (λ i. is_held (cell_at cells i)) (λ i. is_free (cell_at cells i) && held i) (λ i l. held_two (cell_at cells i) (held i) (h i l)) in
     let b = count_at is_held Out cells in

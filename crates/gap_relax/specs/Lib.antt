@@ -1,3 +1,5 @@
 pub mod Choices
 pub mod Differences
 pub mod Partings
+pub mod Rows
+pub mod SoFar

@@ -4,21 +4,10 @@ use Rattle.std.proofs.Math.Seq.{take-add}
 use Rattle.std.proofs.lemmas.List.{length-take, length-take-le, length-drop, length-append, take-append-drop, take_all}
 use Rattle.std.specs.Result.{IfErr, IfOk}
 use Rattle.gap_files.specs.Outside.{FilesNow, ReadsAt, Rose}
+use Rattle.gap_files.proofs.FrontLaws.{front_more, inside_more}
 use Rattle.gap_rule.specs.Reading.{IsFed, WasFed, WasSaid, OnlyReads, StopCause, Says}
 use Rattle.gap_rule.specs.declared.consumer.ReadStop.{ReadStop}
 use Rattle.gap_rule.specs.declared.consumer.ReadStop.TheVariants.{ReadFault, Refused, OutOfMemory}
-
--- the front of a content that one more piece gives
-front_more : (held buffer : List ℕ) (at count : ℕ) → take count buffer ≡ take count (drop at held) → take (at + count) held ≡ take at held ++ take count buffer
-front_more held buffer at count same = take-add at count held ∙ ap (λ (x : List ℕ). take at held ++ x) (sym same)
-
-inside_more : (held buffer : List ℕ) (at count : ℕ) → count ≤ length buffer → at ≤ length held → take count buffer ≡ take count (drop at held) → at + count ≤ length held
-inside_more held buffer at count room inside same =
-    let left = length-take count buffer in
-    let right = length-take count (drop at held) in
-    let rest = length-drop at held in
-    let lengths = ap length same in
-    omega arith
 
 -- a front of a content and then what a read gave is a longer front
 pub fed_more : (held buffer : List ℕ) (at count : ℕ) (old new : List ℕ → Type 0) → count ≤ length buffer → ReadsAt held at buffer count → ((fed : List ℕ) → old fed → new (fed ++ take count buffer)) → IsFed held at old → IsFed held (at + count) new

@@ -17,6 +17,7 @@ use Rattle.gap_model.specs.declared.shown.Shown.TheVariants.{Nothing, AtLeast, E
 use Rattle.gap_model.specs.Order.{ShownLe}
 use Rattle.gap_model.specs.Problems.{Problem, IsBound}
 use Rattle.gap_model.specs.Nodes.{Fate, ends, forks, Node, at_leaf, share, leaf_in, leaf_at, part_in, part_at, splits_of, split_nodes}
+use Rattle.gap_model.proofs.OrderLaws.{shown_le_trans}
 use Rattle.gap_tree.proofs.ViewLaws.{leaf_node}
 use Rattle.gap_search.specs.Boards.{Board, BestAtMost, BestAbove, AllShow, OpenLeaf, InOneLeaf, IsSound}
 use Rattle.gap_search.specs.Steps.{Refusal, busy, spent, closed, Grant, End, Event, claims, settles, gives_back, offers, Step, Run}
@@ -25,20 +26,6 @@ use Rattle.gap_search.proofs.BoardLaws.{not_both, open_many, offered_lower, sing
 use Rattle.gap_search.proofs.KeptLaws.{no_node}
 use Rattle.gap_search.proofs.OpenLaws.{leaf_is_part, open_leaf_is, leaf_cells}
 use Rattle.gap_search.proofs.PointLaws.{open_split, split_points, count_nodes, count_more}
-
--- what leaves show goes on
-pub shown_on : (a b c : Shown) → ShownLe a b → ShownLe b c → ShownLe a c
-shown_on Nothing b c h k = tt
-shown_on (AtLeast a) Nothing c h k = absurd h
-shown_on (AtLeast a) (AtLeast b) Nothing h k = absurd k
-shown_on (AtLeast a) (AtLeast b) (AtLeast c) h k = omega (arith, ints)
-shown_on (AtLeast a) (AtLeast b) Empty h k = tt
-shown_on (AtLeast a) Empty Nothing h k = absurd k
-shown_on (AtLeast a) Empty (AtLeast c) h k = absurd k
-shown_on (AtLeast a) Empty Empty h k = tt
-shown_on Empty Nothing c h k = absurd h
-shown_on Empty (AtLeast b) c h k = absurd h
-shown_on Empty Empty c h k = k
 
 -- a leaf with the list counts
 share_leaf : (x : List ℕ) (nodes : List Node) (n : ℕ) (leaf : Leaf) → leaf_at nodes n ≡ Some leaf → in_part (part_at nodes n) x ≡ true → 1 ≤ sum_by (share x) nodes
@@ -102,7 +89,7 @@ module _ (p : Problem) (bound : IsBound p) (b : Board) (h : IsSound p b) where
   pub floor : (least : Shown) (x : List ℕ) → AllShow p b.nodes least → p.meets x ≡ true → ShownLe least (AtLeast (p.cost x))
   floor least x k m =
       let o = once x (bound.picked x m).inside in
-      shown_on least (p.shows (part_at b.nodes o.n) o.leaf) (AtLeast (p.cost x)) (k o.n o.leaf o.there) (bound.below (part_at b.nodes o.n) o.leaf x (leaf_is_part p b h o.n o.leaf o.there) (h.leaves o.n o.leaf o.there).in_range o.inside m)
+      shown_le_trans least (p.shows (part_at b.nodes o.n) o.leaf) (AtLeast (p.cost x)) (k o.n o.leaf o.there) (bound.below (part_at b.nodes o.n) o.leaf x (leaf_is_part p b h o.n o.leaf o.there) (h.leaves o.n o.leaf o.there).in_range o.inside m)
 
   pub few : splits_of b.nodes + 1 ≤ points p.whole
   few =
@@ -160,8 +147,8 @@ never_lower_step p old (settles c split first second) new least h s k = subst (�
       by_case o was.0 part low (leaf_case old.nodes c.node.0 was.0 was.1 split first second n leaf e) where
         by_case : (o : OpenLeaf p old.nodes c.node.0) (was : Node) → was.part ≡ c.part → ShownLe least (p.shows c.part o.leaf) → LeafCase old.nodes (split_nodes old.nodes c.node.0 split first second) c.node.0 (child_cells was.part split First) (child_cells was.part split Second) first second n leaf → ShownLe least (p.shows (part_at (split_nodes old.nodes c.node.0 split first second) n) leaf)
         by_case o was part low (stays d g q) = subst (λ (z : List Cell). ShownLe least (p.shows z leaf)) (sym q) (k n leaf g)
-        by_case o was part low (at_first d g q) = subst (λ (z : List Cell). ShownLe least (p.shows z leaf)) (sym (q ∙ ap (λ (z : List Cell). child_cells z split First) part)) (subst (λ (l : Leaf). ShownLe least (p.shows (child_cells c.part split First) l)) (sym g) (shown_on least (p.shows c.part o.leaf) _ low (s.2.no_less o.leaf o.there)))
-        by_case o was part low (at_second d g q) = subst (λ (z : List Cell). ShownLe least (p.shows z leaf)) (sym (q ∙ ap (λ (z : List Cell). child_cells z split Second) part)) (subst (λ (l : Leaf). ShownLe least (p.shows (child_cells c.part split Second) l)) (sym g) (shown_on least (p.shows c.part o.leaf) _ low (s.3.no_less o.leaf o.there)))
+        by_case o was part low (at_first d g q) = subst (λ (z : List Cell). ShownLe least (p.shows z leaf)) (sym (q ∙ ap (λ (z : List Cell). child_cells z split First) part)) (subst (λ (l : Leaf). ShownLe least (p.shows (child_cells c.part split First) l)) (sym g) (shown_le_trans least (p.shows c.part o.leaf) _ low (s.2.no_less o.leaf o.there)))
+        by_case o was part low (at_second d g q) = subst (λ (z : List Cell). ShownLe least (p.shows z leaf)) (sym (q ∙ ap (λ (z : List Cell). child_cells z split Second) part)) (subst (λ (l : Leaf). ShownLe least (p.shows (child_cells c.part split Second) l)) (sym g) (shown_le_trans least (p.shows c.part o.leaf) _ low (s.3.no_less o.leaf o.there)))
 never_lower_step p old (gives_back c) new least h s k = subst (λ (b : Board). AllShow p b.nodes least) (sym s.1) k
 never_lower_step p old (offers x) new least h s k = subst (λ (b : Board). AllShow p b.nodes least) (sym s) k
 

@@ -21,13 +21,8 @@ use Rattle.gap_trace.proofs.DrainLaws.{flows_none, flows_put, flows_both, breaks
 use Rattle.gap_solved.specs.Solveds.{SolvedValue, IsSectionOf}
 use Rattle.gap_writer.specs.Writing.{Written, blank, put_all, last_of}
 use Rattle.gap_writer.proofs.Spelled.{opening_last}
+use Rattle.gap_writer.proofs.ItemLaws.{spelled_behind}
 use Rattle.gap_sections.specs.Filled.{section_bytes, due, Owes, Pours, root_stack}
-
--- items behind items
-pub spelled_behind : (last : Option Witness) (a b : List Field) → spelled Two last (a ++ b) ≡ spelled Two last a ++ spelled Two (last_of last a) b
-unfolding spelled
-spelled_behind last [] b = refl
-spelled_behind last (f ∷ a) b = ap (λ (x : List ℕ). bytes_of Two last f ++ x) (spelled_behind (last_behind last f) a b) ∙ sym (append_assoc (bytes_of Two last f) (spelled Two (last_behind last f) a) (spelled Two (last_of (last_behind last f) a) b))
 
 some_behind : (a b : List ℕ) → 0 < length a → 0 < length (a ++ b)
 some_behind a b h = let l = length-append a b in omega arith

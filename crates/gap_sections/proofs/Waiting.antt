@@ -1,7 +1,6 @@
 -- Trees that wait on a stack, and what is still due of them.
 use Rattle.std.proofs.Common.{◌≡◌, ℕ, zero, suc, ◌+◌, ◌-◌, ◌<◌, ◌≤◌, ◌^◌, ◌⊎◌, inl, inr, Bool, true, false, IsTrue, List, [], ◌∷◌, ◌++◌, length, slice_get, slice_index_or, Option, Some, None, refl, sym, ap, ◌∙◌, subst, arith}
-use Rattle.std.proofs.lemmas.Bool.{cases_lt}
-use Rattle.std.proofs.lemmas.List.{append_assoc, append-nil, get_or_past}
+use Rattle.std.proofs.lemmas.List.{append_assoc, append-nil}
 use Rattle.std.proofs.lemmas.List.Sums.{sum_by_push}
 use Rattle.std.proofs.lemmas.Nat.{pow_pos}
 use Rattle.std.proofs.Math.Nat.{pow-suc, pow-le-pow_right}
@@ -13,6 +12,7 @@ use Rattle.gap_box.specs.declared.split.Split.TheVariants.{Held, Lots}
 use Rattle.gap_box.specs.Cells.{is_free}
 use Rattle.gap_box.specs.Narrow.{asset_of}
 use Rattle.gap_box.specs.Splits.{can_cut, lawful_split}
+use Rattle.gap_box.proofs.CellLaws.{place_in}
 use Rattle.gap_model.specs.declared.leaf.Leaf.{Leaf}
 use Rattle.gap_model.specs.Trees.{SplitTree, tip, fork}
 use Rattle.gap_model.specs.Nodes.{Fate, ends, forks, Node, split_in, split_at, leaf_in, leaf_at, first_in, first_at, part_at, IsTree, IsTreeOf}
@@ -56,16 +56,6 @@ looked nodes n = by_node (slice_get nodes n) refl
     by_node (Some node) e = by_fate node node.fate e refl
 
 -- ---- splits are of assets that there are
-place_in : (cells : List Cell) (i : ℕ) (test : Cell → Bool) → test Out ≡ false → test (slice_index_or cells i Out) ≡ true → i < length cells
-place_in cells i test o t = by_place (cases_lt i (length cells))
-  where
-    differ : {b : Bool} → b ≡ true → b ≡ false → ⊥
-    differ p q = cc
-
-    by_place : (i < length cells) ⊎ (length cells ≤ i) → i < length cells
-    by_place (inl l) = l
-    by_place (inr l) = absurd (differ t (ap test (get_or_past cells i Out l) ∙ o))
-
 lawful_in : (cells : List Cell) (split : Split) → IsTrue (lawful_split cells split) → asset_of split < length cells
 lawful_in cells (Held i) l = place_in cells i is_free refl l
 lawful_in cells (Lots i t) l = place_in cells i (λ (cell : Cell). can_cut cell t) refl l

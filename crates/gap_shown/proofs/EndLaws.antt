@@ -25,7 +25,8 @@ use Rattle.gap_cert.specs.Certificates.{CertHead, CertSection, CertTree, claim_o
 use Rattle.gap_valid.specs.Heads.{instance_in, shift_in, setting_in}
 use Rattle.gap_valid.specs.CertTrees.{IsFormed, cert_splits, cert_leaves, PlacedLeaf, leaf_shows, greater_shown, overall_shows, shown_bound, IsWitness, has_point}
 use Rattle.gap_valid.specs.Valid.{IsRightLeaf, IsClaimRight, IsValidSection}
-use Rattle.gap_valid.proofs.ShownLaws.{le_same, le_trans, le_both, greater_most}
+use Rattle.gap_model.proofs.OrderLaws.{shown_le_trans}
+use Rattle.gap_valid.proofs.ShownLaws.{le_same, le_both, greater_most}
 use Rattle.gap_solved.specs.Solveds.{SolvedValue, cert_leaf_of, cert_tree_of, IsSectionOf}
 use Rattle.gap_solved.proofs.SectionLaws.{one_section}
 use Rattle.gap_shown.specs.Ended.{root_of, IsSearched, shown_with, ShowsNumber, ShowsJust, IsTold, HasEnded, IsValidWhere}
@@ -49,7 +50,7 @@ greater_right Empty (AtLeast b) = tt
 greater_right Empty Empty = tt
 
 greater_more : (a b c : Shown) → ShownLe b c → ShownLe (greater_shown a b) (greater_shown a c)
-greater_more a b c h = greater_most a b (greater_shown a c) (greater_left a c) (le_trans b c (greater_shown a c) h (greater_right a c))
+greater_more a b c h = greater_most a b (greater_shown a c) (greater_left a c) (shown_le_trans b c (greater_shown a c) h (greater_right a c))
 
 -- ---- what the section's tree shows
 module _ (s : Setting) (budget : ℕ) (nodes : List Node) (h : IsSearched s budget nodes) (tree : SplitTree) (t : IsTreeOf nodes 0 tree) where
@@ -84,7 +85,7 @@ module _ (s : Setting) (budget : ℕ) (nodes : List Node) (h : IsSearched s budg
   number_shown : (overall : Option Witness) (number : ℤ) → ShowsNumber s nodes overall number → ShownLe (AtLeast number) (shown_bound s (root_of s) overall (cert_tree_of assets tree))
   number_shown overall number w =
       subst (λ (z : Shown). ShownLe (AtLeast number) z) (sym (bound_is overall))
-      (le_trans (AtLeast number) (shown_with s overall w.least) (shown_with s overall root_least) w.number_is (greater_more (overall_shows s (root_of s) overall) w.least root_least (least_is_more w.least w.each)))
+      (shown_le_trans (AtLeast number) (shown_with s overall w.least) (shown_with s overall root_least) w.number_is (greater_more (overall_shows s (root_of s) overall) w.least root_least (least_is_more w.least w.each)))
 
   just_shown : (overall : Option Witness) (number : ℤ) → ShowsJust s nodes overall number → shown_bound s (root_of s) overall (cert_tree_of assets tree) ≡ AtLeast number
   just_shown overall number w =

@@ -20,7 +20,8 @@ use Rattle.gap_model.specs.Trees.{SplitTree, tip, fork, tree_splits}
 use Rattle.gap_model.specs.Nodes.{Fate, ends, forks, Node, one_split, splits_of, part_in, part_at, leaf_in, leaf_at, IsTree, IsTreeOf}
 use Rattle.gap_tree.proofs.GrownLaws.{has_tree}
 use Rattle.gap_valid.specs.CertTrees.{IsFormed, cert_splits, PlacedLeaf, cert_leaves, leaf_shows, placed_shows, lesser_shown, least_shown}
-use Rattle.gap_valid.proofs.ShownLaws.{le_empty, le_trans, lesser_left, lesser_right, lesser_most, least_left, least_right}
+use Rattle.gap_model.proofs.OrderLaws.{shown_le_trans}
+use Rattle.gap_valid.proofs.ShownLaws.{le_empty, lesser_left, lesser_right, lesser_most, least_left, least_right}
 use Rattle.gap_solved.specs.Solveds.{cert_leaf_of, cert_tree_of}
 use Rattle.gap_solved.proofs.SectionLaws.{one_tree}
 use Rattle.gap_shown.proofs.CountLaws.{pair, pairs, value, counted, has_parent}
@@ -171,7 +172,7 @@ all_cert Q assets part (fork split first second) p = All-append Q _ _ (all_cert 
 -- the least of two lists is no less than what neither's least is below
 least_both : (xs ys : List Shown) (v : Shown) → ShownLe v (least_shown xs) → ShownLe v (least_shown ys) → ShownLe v (least_shown (xs ++ ys))
 least_both [] ys v p q = q
-least_both (x ∷ xs) ys v p q = lesser_most x (least_shown (xs ++ ys)) v (le_trans v (lesser_shown x (least_shown xs)) x p (lesser_left x (least_shown xs))) (least_both xs ys v (le_trans v (lesser_shown x (least_shown xs)) (least_shown xs) p (lesser_right x (least_shown xs))) q)
+least_both (x ∷ xs) ys v p q = lesser_most x (least_shown (xs ++ ys)) v (shown_le_trans v (lesser_shown x (least_shown xs)) x p (lesser_left x (least_shown xs))) (least_both xs ys v (shown_le_trans v (lesser_shown x (least_shown xs)) (least_shown xs) p (lesser_right x (least_shown xs))) q)
 
 -- the least that the leaves of a certificate's tree show
 abbrev pub least_of : Setting → ℕ → List Cell → SplitTree → Shown
@@ -193,9 +194,9 @@ least_from s assets part (fork split first second) v p =
     (least_both (firsts s assets part split first) (seconds s assets part split second) v (least_from s assets (child_cells part split First) first v p.0) (least_from s assets (child_cells part split Second) second v p.1))
 
 pub least_each : (s : Setting) (assets : ℕ) (part : List Cell) (tree : SplitTree) (v : Shown) → ShownLe v (least_of s assets part tree) → each (λ (z : List Cell) (leaf : Leaf). ShownLe v (leaf_shows s z (cert_leaf_of assets leaf))) part tree
-least_each s assets part (tip leaf) v p = le_trans v (lesser_shown (leaf_shows s part (cert_leaf_of assets leaf)) Empty) (leaf_shows s part (cert_leaf_of assets leaf)) p (lesser_left (leaf_shows s part (cert_leaf_of assets leaf)) Empty)
+least_each s assets part (tip leaf) v p = shown_le_trans v (lesser_shown (leaf_shows s part (cert_leaf_of assets leaf)) Empty) (leaf_shows s part (cert_leaf_of assets leaf)) p (lesser_left (leaf_shows s part (cert_leaf_of assets leaf)) Empty)
 least_each s assets part (fork split first second) v p =
     let q = subst (λ (z : Shown). ShownLe v z) (least_fork s assets part split first second) p in (
-      least_each s assets (child_cells part split First) first v (le_trans v (least_shown (firsts s assets part split first ++ seconds s assets part split second)) (least_shown (firsts s assets part split first)) q (least_left (firsts s assets part split first) (seconds s assets part split second))),
-      least_each s assets (child_cells part split Second) second v (le_trans v (least_shown (firsts s assets part split first ++ seconds s assets part split second)) (least_shown (seconds s assets part split second)) q (least_right (firsts s assets part split first) (seconds s assets part split second))),
+      least_each s assets (child_cells part split First) first v (shown_le_trans v (least_shown (firsts s assets part split first ++ seconds s assets part split second)) (least_shown (firsts s assets part split first)) q (least_left (firsts s assets part split first) (seconds s assets part split second))),
+      least_each s assets (child_cells part split Second) second v (shown_le_trans v (least_shown (firsts s assets part split first ++ seconds s assets part split second)) (least_shown (seconds s assets part split second)) q (least_right (firsts s assets part split first) (seconds s assets part split second))),
     )

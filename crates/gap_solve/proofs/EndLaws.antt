@@ -29,10 +29,11 @@ use Rattle.gap_model.specs.Outcomes.{IsPortfolio, IsLowerBound, IsRight}
 use Rattle.gap_model.proofs.BoundLaws.{tangent_lawful}
 use Rattle.gap_model.proofs.LimitLaws.{meets_from, meets_true}
 use Rattle.gap_model.proofs.LeafSizes.{shown_size}
+use Rattle.gap_model.proofs.OrderLaws.{shown_le_trans}
 use Rattle.gap_search.specs.Boards.{Board, node_held, tickets, BestAbove, IsBest, AllShow, IsShown, IsSound}
 use Rattle.gap_search.specs.Steps.{Refusal, busy, spent, closed, End}
 use Rattle.gap_search.proofs.BoardLaws.{not_both}
-use Rattle.gap_search.proofs.CoverLaws.{shown_on, floor}
+use Rattle.gap_search.proofs.CoverLaws.{floor}
 use Rattle.gap_search.proofs.HeldLaws.{worker_there, tickets_less}
 use Rattle.gap_search.proofs.OpenLaws.{leaf_is_part}
 use Rattle.gap_valid.specs.CertTrees.{leaf_shows, greater_shown, overall_shows, IsWitness}
@@ -159,7 +160,7 @@ module _ (s : Setting) (is : IsSetting s) (nodes : ℕ) (b : Board) (sound : IsS
   shown_right overall least x g all m = greater_most (overall_shows s (root_of s) overall) least (AtLeast (objective s.instance s.p s.q x)) (overall_right overall x g m) (least_right least x all m)
 
   number_right : (overall : Option Witness) (number : ℤ) → Given s overall → ShowsNumber s b.nodes overall number → IsLowerBound s.instance s.p s.q number
-  number_right overall number g h = λ x m. shown_on (AtLeast number) (shown_with s overall h.least) (AtLeast (objective s.instance s.p s.q x)) h.number_is (shown_right overall h.least x g h.each m)
+  number_right overall number g h = λ x m. shown_le_trans (AtLeast number) (shown_with s overall h.least) (AtLeast (objective s.instance s.p s.q x)) h.number_is (shown_right overall h.least x g h.each m)
 
   just_right : (overall : Option Witness) (number : ℤ) → Given s overall → ShowsJust s b.nodes overall number → IsLowerBound s.instance s.p s.q number
   just_right overall number g h = λ x m. subst (λ (z : Shown). ShownLe z (AtLeast (objective s.instance s.p s.q x))) h.number_is (shown_right overall (AtLeast h.least) x g h.each m)

@@ -35,9 +35,9 @@ use Rattle.gap_model.proofs.LimitLaws.{picked}
 use Rattle.gap_model.proofs.LagLaws.{lag_below}
 use Rattle.gap_model.proofs.LeafLaws.{sixty_fourth_least, sixty_fourth_grows}
 use Rattle.gap_model.proofs.ThetaLaws.{theta_least, theta_none_iff, theta_some, theta_is}
+use Rattle.gap_model.proofs.OrderLaws.{shown_le_trans}
 use Rattle.gap_lines.specs.Lines.{IsBest}
 use Rattle.gap_tangent.specs.Lines.{or_zero, alpha_curve}
-use Rattle.gap_search.proofs.CoverLaws.{shown_on}
 use Rattle.gap_witness.specs.Points.{choice_of, point}
 use Rattle.gap_leaf.specs.Showing.{witness_shows, NoLessThanAt}
 use Rattle.gap_shown.specs.Ended.{root_of}
@@ -94,7 +94,7 @@ portfolio_floor s best y is h = record {
 
 more_than : (s : Setting) (part : List Cell) (y : ℕ → ℤ) (a b : Shown) → NoLessThanAt s part y a → ShownLe a b → NoLessThanAt s part y b
 unfolding NoLessThanAt
-more_than s part y a b h l = λ alpha m. shown_on (tangent_shows (theta s part y alpha (pos 0))) a b (h alpha m) l
+more_than s part y a b h l = λ alpha m. shown_le_trans (tangent_shows (theta s part y alpha (pos 0))) a b (h alpha m) l
 
 uncounted_empty : (s : Setting) (leaf : Leaf) → leaf ≡ Count → can_meet (root_of s) s.instance.held s.instance.held_most ≡ false → shows s (root_of s) leaf ≡ Empty
 unfolding shows
@@ -110,7 +110,7 @@ root_floor s y leaf v h l = record {
   point = λ has. subst (λ (z : List ℕ). NoLessThanAt s (root_of s) (lots_at (point s (choice_of s (root_of s)) z)) (AtLeast v)) h.hint_is.y_is (more_than s (root_of s) (lots_at (point s (choice_of s (root_of s)) h.hint.y)) (shows s (root_of s) leaf) (AtLeast v) (h.leaf_is.point has) l);
 } where
   by_count : (b : Bool) → can_meet (root_of s) s.instance.held s.instance.held_most ≡ b → NoLessThanAt s (root_of s) (lots_at y) (AtLeast v)
-  by_count true e = more_than s (root_of s) (lots_at y) (witness_shows s (root_of s) h.hint) (AtLeast v) (h.hint_is.best e) (shown_on (witness_shows s (root_of s) h.hint) (shows s (root_of s) leaf) (AtLeast v) h.leaf_is.no_less l)
+  by_count true e = more_than s (root_of s) (lots_at y) (witness_shows s (root_of s) h.hint) (AtLeast v) (h.hint_is.best e) (shown_le_trans (witness_shows s (root_of s) h.hint) (shows s (root_of s) leaf) (AtLeast v) h.leaf_is.no_less l)
   by_count false e = absurd (not_empty (shows s (root_of s) leaf) v (uncounted_empty s leaf (h.leaf_is.uncounted e) e) l)
 
 -- ---- the best alpha at a point

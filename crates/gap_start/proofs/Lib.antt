@@ -1,4 +1,5 @@
 pub mod FillLaws
+pub mod PlaceLaws
 pub mod RoundingLaws
 pub mod StartLaws
 pub mod StepLaws

@@ -1,15 +1,17 @@
 -- Laws of the steps to neighbours.
-use Rattle.std.proofs.Common.{◌≡◌, ℕ, ◌+◌, ◌-◌, ◌<◌, ◌≤◌, List, length, slice_index_or, slice_set, ℤ, pos, ◌+ℤ◌, ◌≤ℤ◌, ◌<ℤ◌, ◌⊎◌, inl, inr, sym, subst, arith, length-set, get_or-set_same, unsigned_abs}
+use Rattle.std.proofs.Common.{◌≡◌, ℕ, ◌+◌, ◌-◌, ◌<◌, ◌≤◌, List, length, slice_index_or, slice_set, ℤ, pos, ◌+ℤ◌, ◌≤ℤ◌, ◌<ℤ◌, ◌⊎◌, inl, inr, refl, sym, ap, subst, arith, Option, None, Some, length-set, get_or-set_same, unsigned_abs}
 use Rattle.std.proofs.lemmas.Bool.{cases_lt}
 use Rattle.std.proofs.lemmas.Int.{ints}
 use Rattle.std.proofs.lemmas.List.{get_or_past}
 use Rattle.gap_instance.specs.Instances.{InstanceValue, IsInstance}
 use Rattle.gap_instance.specs.Limits.{MeetsLimits}
-use Rattle.gap_instance.specs.Neighbours.{IsMove, IsReplacement, HasNoBetterNeighbour, lot_moved, exchanged}
+use Rattle.gap_instance.specs.Neighbours.{IsMove, IsReplacement, HasNoBetterNeighbour, lot_moved, lots_shifted, exchanged}
 use Rattle.gap_instance.specs.Objective.{objective}
 use Rattle.gap_start.specs.declared.step.Kind.{Kind}
 use Rattle.gap_start.specs.declared.step.Kind.TheVariants.{Move, Replace}
-use Rattle.gap_start.specs.Steps.{CanStep, stepped, HasRoom, NoneBelow, NoneBelowFrom, NoneBelowKind}
+use Rattle.gap_start.specs.Steps.{CanStep, stepped, HasRoom, NoneBelow, NoneBelowFrom, NoneBelowKind, IsFoundBy}
+use Rattle.gap_start.specs.declared.step.Step.{Step}
+use Rattle.gap_objective.specs.Slopes.{StaysFrom}
 
 -- a lower number is below still
 pub NoneBelow-lower : (I : InstanceValue) (p q : ℕ) (x : List ℕ) (v w : ℤ) (kind : Kind) (i j : ℕ) → NoneBelow I p q x v kind i j → w ≤ℤ v → NoneBelow I p q x w kind i j
@@ -37,6 +39,24 @@ HasRoom-meets I x Replace i j size h can meets =
 -- where there is no room nothing is found
 pub NoneBelow-full : (I : InstanceValue) (p q : ℕ) (x : List ℕ) (v : ℤ) (kind : Kind) (i j : ℕ) → length x ≡ I.market.assets → j < I.market.assets → (HasRoom I x kind i j → ⊥) → NoneBelow I p q x v kind i j
 NoneBelow-full I p q x v kind i j size h full can meets = absurd (full (HasRoom-meets I x kind i j size h can meets))
+
+-- what was found is at most the objective of the list
+pub IsFoundBy-low : (I : InstanceValue) (p q : ℕ) (x : List ℕ) (v : ℤ) (step : Option Step) → IsFoundBy I p q x v step → v ≤ℤ objective I p q x
+IsFoundBy-low I p q x v None is = omega (arith, ints)
+IsFoundBy-low I p q x v (Some step) is = let a = is.better in omega (arith, ints)
+
+-- a replacement moves all lots of the giver
+replaced_is : (x : List ℕ) (i j : ℕ) → slice_index_or x j 0 ≡ 0 → lots_shifted x i j (slice_index_or x i 0) ≡ exchanged x i j
+replaced_is x i j e = let a : slice_index_or x i 0 - slice_index_or x i 0 ≡ slice_index_or x j 0 = omega arith in let b : slice_index_or x j 0 + slice_index_or x i 0 ≡ slice_index_or x i 0 = omega arith in rw (a, b) refl
+
+-- where the objective stays by lots that go from i to j, nothing is found
+pub NoneBelow-flat : (I : InstanceValue) (p q : ℕ) (x : List ℕ) (v : ℤ) (kind : Kind) (i j : ℕ) → v ≤ℤ objective I p q x → StaysFrom I p q x i j → NoneBelow I p q x v kind i j
+NoneBelow-flat I p q x v Move i j low stays can meets =
+    let up = stays 1 can.0 (let a = can.1 in omega arith) in omega (arith, ints)
+NoneBelow-flat I p q x v Replace i j low stays can meets =
+    let other : i ≡ j → ⊥ = λ e. let same = ap (λ (k : ℕ). slice_index_or x k 0) e in let a = can.1 in let b = can.2 in absurd (omega arith) in
+    let up = subst (λ (y : List ℕ). objective I p q x ≤ℤ objective I p q y) (replaced_is x i j can.2) (stays (slice_index_or x i 0) other (omega arith)) in
+    omega (arith, ints)
 
 -- an asset that isn't held gives nothing
 pub NoneBelow-empty : (I : InstanceValue) (p q : ℕ) (x : List ℕ) (v : ℤ) (kind : Kind) (i : ℕ) → slice_index_or x i 0 ≡ 0 → NoneBelowFrom I p q x v kind i I.market.assets
@@ -74,20 +94,20 @@ height_falls I p q x y a b l = omega (arith, ints)
 pub room_small : (I : InstanceValue) (x : List ℕ) (i j : ℕ) → IsInstance I → j < I.market.assets → HasRoom I x Move i j → slice_index_or x j 0 < 10000
 room_small I x i j known h room = let a = room.3 in let b = known.limits_are.greatest_within.most j h in let c = known.limits_are.lots_most in omega arith
 
--- one more taker, one more giver
-pub more_takers : (I : InstanceValue) (p q : ℕ) (x : List ℕ) (v w : ℤ) (kind : Kind) (i n : ℕ) → NoneBelowFrom I p q x v kind i n → w ≤ℤ v → NoneBelow I p q x w kind i n → NoneBelowFrom I p q x w kind i (n + 1)
-more_takers I p q x v w kind i n before le here j h = by_place (cases_lt j n)
+-- one more taker of a list, one more giver
+pub more_takers : (I : InstanceValue) (p q : ℕ) (x : List ℕ) (v w : ℤ) (kind : Kind) (i : ℕ) (xs : List ℕ) (n : ℕ) → ((a : ℕ) → a < n → NoneBelow I p q x v kind i (slice_index_or xs a 0)) → w ≤ℤ v → NoneBelow I p q x w kind i (slice_index_or xs n 0) → (a : ℕ) → a < n + 1 → NoneBelow I p q x w kind i (slice_index_or xs a 0)
+more_takers I p q x v w kind i xs n before le here a h = by_place (cases_lt a n)
   where
-    by_place : (j < n) ⊎ (n ≤ j) → NoneBelow I p q x w kind i j
-    by_place (inl l) = NoneBelow-lower I p q x v w kind i j (before j l) le
-    by_place (inr l) = let e : n ≡ j = omega arith in subst (λ (k : ℕ). NoneBelow I p q x w kind i k) e here
+    by_place : (a < n) ⊎ (n ≤ a) → NoneBelow I p q x w kind i (slice_index_or xs a 0)
+    by_place (inl l) = NoneBelow-lower I p q x v w kind i (slice_index_or xs a 0) (before a l) le
+    by_place (inr l) = let e : n ≡ a = omega arith in subst (λ (k : ℕ). NoneBelow I p q x w kind i (slice_index_or xs k 0)) e here
 
-pub more_givers : (I : InstanceValue) (p q : ℕ) (x : List ℕ) (v w : ℤ) (kind : Kind) (n : ℕ) → ((k : ℕ) → k < n → NoneBelowFrom I p q x v kind k I.market.assets) → w ≤ℤ v → NoneBelowFrom I p q x w kind n I.market.assets → (k : ℕ) → k < n + 1 → NoneBelowFrom I p q x w kind k I.market.assets
-more_givers I p q x v w kind n before le here k h = by_place (cases_lt k n)
+pub more_givers : (I : InstanceValue) (p q : ℕ) (x : List ℕ) (v w : ℤ) (kind : Kind) (xs : List ℕ) (n : ℕ) → ((a : ℕ) → a < n → NoneBelowFrom I p q x v kind (slice_index_or xs a 0) I.market.assets) → w ≤ℤ v → NoneBelowFrom I p q x w kind (slice_index_or xs n 0) I.market.assets → (a : ℕ) → a < n + 1 → NoneBelowFrom I p q x w kind (slice_index_or xs a 0) I.market.assets
+more_givers I p q x v w kind xs n before le here a h = by_place (cases_lt a n)
   where
-    by_place : (k < n) ⊎ (n ≤ k) → NoneBelowFrom I p q x w kind k I.market.assets
-    by_place (inl l) = λ j m. NoneBelow-lower I p q x v w kind k j (before k l j m) le
-    by_place (inr l) = let e : n ≡ k = omega arith in subst (λ (i : ℕ). NoneBelowFrom I p q x w kind i I.market.assets) e here
+    by_place : (a < n) ⊎ (n ≤ a) → NoneBelowFrom I p q x w kind (slice_index_or xs a 0) I.market.assets
+    by_place (inl l) = λ j m. NoneBelow-lower I p q x v w kind (slice_index_or xs a 0) j (before a l j m) le
+    by_place (inr l) = let e : n ≡ a = omega arith in subst (λ (k : ℕ). NoneBelowFrom I p q x w kind (slice_index_or xs k 0) I.market.assets) e here
 
 -- for the search of a step
 pub ruleset step_laws = (NoneBelow-full, NoneBelow-empty, NoneBelow-lower)

@@ -1,5 +1,6 @@
 pub mod Choices
 pub mod Fills
+pub mod Places
 pub mod Roundings
 pub mod Starts
 pub mod Steps

@@ -2,6 +2,7 @@
 #![tactic(auto)]
 
 mod fill;
+mod places;
 mod polishing;
 mod rounding;
 mod starting;

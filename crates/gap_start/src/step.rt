@@ -4,8 +4,10 @@ ghost use Rattle.std.specs.Prelude.{◌≡◌, ◌≢◌, ℕ, ◌+◌, ◌-◌,
 ghost use Rattle.gap_instance.specs.Instances.{IsInstance, AreBetween};
 ghost use Rattle.gap_instance.specs.Limits.{MeetsLimits};
 ghost use Rattle.gap_instance.specs.Objective.{objective};
+ghost use Rattle.gap_start.specs.Places.{AreAll, IsGiver, IsTaker, IsSteepest};
 ghost use Rattle.gap_start.specs.Steps.{CanStep, stepped, HasRoom, NoneBelow, NoneBelowFrom, NoneBelowKind, IsFound};
 
+use crate::places::{Places, givers, steepest, takers};
 use gap_base::Lots;
 use gap_instance::Instance;
 use gap_objective::Holding;
@@ -35,8 +37,9 @@ pub struct Found {
 }
 
 /// The step to the neighbour with the least objective among those that meet the limits and are better than the list:
-/// of equal ones moves come before replacements, then the lower giver, then the lower taker. Costs O(N) for each held
-/// asset, and O(N) each time that a better one is found.
+/// of equal ones moves come before replacements, then the lower giver, then the lower taker. Costs O(N), O(1) for each
+/// pair of a held asset and an asset whose slope is below the greatest of the held ones, and O(N) each time that a better
+/// one is found.
 pub fn best_step(h: &Holding<'_>) -> Found
     ensures found { IsFound h.now.instance h.now.weight.p h.now.weight.q h.now.lots result }
     ensures moves { NoneBelowKind h.now.instance h.now.weight.p h.now.weight.q h.now.lots result.value Kind.Move }
@@ -47,46 +50,72 @@ pub fn best_step(h: &Holding<'_>) -> Found
         value: h.value(),
         step: None,
     };
-    let moved = best_of(h, Kind::Move, none);
-    best_of(h, Kind::Replace, moved)
+    let givers = givers(h);
+    let top = steepest(h, &givers);
+    let moved = best_of(h, Kind::Move, &givers, top, none);
+    best_of(h, Kind::Replace, &givers, top, moved)
 }
 
-/// The best step of one kind, where none was found that is as good.
-fn best_of(h: &Holding<'_>, kind: Kind, before: Found) -> Found
-    requires { IsFound h.now.instance h.now.weight.p h.now.weight.q h.now.lots before }
+/// The best step of one kind, where none was found that is as good: from the assets that are held, of which asset `top`
+/// has the greatest slope.
+fn best_of(h: &Holding<'_>, kind: Kind, givers: &Places, top: u16, before: Found) -> Found
+    requires givers { AreAll (IsGiver h.now.lots) h.now.instance.market.assets h.now.instance.market.assets
+        givers.now.numbers givers.now.count }
+    requires inside { top < h.now.instance.market.assets }
+    requires steepest { IsSteepest h.now.instance h.now.weight.p h.now.weight.q h.now.lots top }
+    requires before { IsFound h.now.instance h.now.weight.p h.now.weight.q h.now.lots before }
     ensures found { IsFound h.now.instance h.now.weight.p h.now.weight.q h.now.lots result }
     ensures better { result.value ≤ℤ before.value }
     ensures none { NoneBelowKind h.now.instance h.now.weight.p h.now.weight.q h.now.lots result.value kind }
     ensures instance { IsInstance h.now.instance }
 {
+    let takers = takers(h, kind, top);
     let mut found = before;
-    for i in 0..h.instance().n() {
-        found = best_from(h, kind, i, found);
+    for k in 0..givers.count {
+        found = best_from(h, kind, givers.numbers.get(k), top, &takers, found);
     }
     found
 }
 
-/// The best step of one kind from asset `i`, where none was found that is as good.
-fn best_from(h: &Holding<'_>, kind: Kind, i: u16, before: Found) -> Found
+/// The best step of one kind from asset `i`, where none was found that is as good: to the assets at which the slope is
+/// below the one at asset `top`.
+fn best_from(h: &Holding<'_>, kind: Kind, i: u16, top: u16, takers: &Places, before: Found) -> Found
     requires giver { i < h.now.instance.market.assets }
+    requires steepest { IsSteepest h.now.instance h.now.weight.p h.now.weight.q h.now.lots top }
+    requires takers { AreAll (IsTaker h.now.instance h.now.weight.p h.now.weight.q h.now.lots kind top)
+        h.now.instance.market.assets h.now.instance.market.assets takers.now.numbers takers.now.count }
     requires before { IsFound h.now.instance h.now.weight.p h.now.weight.q h.now.lots before }
     ensures found { IsFound h.now.instance h.now.weight.p h.now.weight.q h.now.lots result }
     ensures better { result.value ≤ℤ before.value }
     ensures none { NoneBelowFrom h.now.instance h.now.weight.p h.now.weight.q h.now.lots result.value kind i
         h.now.instance.market.assets }
 {
+    let _lots = h.lots();
     let mut found = before;
-    if h.lots().get(i) == 0 {
-        return found;
-    }
-    for j in 0..h.instance().n() {
-        found = better_of(h, kind, i, j, found);
+    for k in 0..takers.count {
+        found = better_of(h, kind, i, takers.numbers.get(k), found);
     }
     found
 }
 
-/// The better one of a step and of what was found before.
+/// The better one of a step and of what was found before. Costs O(1) where the objective can't fall by it.
 fn better_of(h: &Holding<'_>, kind: Kind, i: u16, j: u16, before: Found) -> Found
+    requires giver { i < h.now.instance.market.assets }
+    requires taker { j < h.now.instance.market.assets }
+    requires before { IsFound h.now.instance h.now.weight.p h.now.weight.q h.now.lots before }
+    ensures found { IsFound h.now.instance h.now.weight.p h.now.weight.q h.now.lots result }
+    ensures better { result.value ≤ℤ before.value }
+    ensures none { NoneBelow h.now.instance h.now.weight.p h.now.weight.q h.now.lots result.value kind i j }
+{
+    if h.may_fall(i, j) {
+        better_by_value(h, kind, i, j, before)
+    } else {
+        before
+    }
+}
+
+/// The better one of a step and of what was found before, by the objective after it.
+fn better_by_value(h: &Holding<'_>, kind: Kind, i: u16, j: u16, before: Found) -> Found
     requires giver { i < h.now.instance.market.assets }
     requires taker { j < h.now.instance.market.assets }
     requires before { IsFound h.now.instance h.now.weight.p h.now.weight.q h.now.lots before }

@@ -12,25 +12,18 @@ use Rattle.gap_cert.specs.Fields.{bytes_of}
 use Rattle.gap_cert.specs.Certificates.{CertSection, head_fields, section_fields, sections_fields, fields_of, last_behind, spelled, spelling, Certificate}
 use Rattle.gap_head.specs.HeadOf.{head_of}
 use Rattle.gap_sections.specs.Filled.{section_bytes}
-use Rattle.gap_writer.specs.Writing.{last_of}
+use Rattle.gap_writer.specs.Writing.{last_of, end_bytes}
+use Rattle.gap_writer.proofs.ItemLaws.{spelled_behind, end_some}
 use Rattle.gap_solve.specs.Ends.{best_in}
 use Rattle.gap_trace.specs.Marks.{Mark, to_file, to_sink, appends, prints, filed, Streams, stream, streams, started, Did, DidFront, DidLess}
 use Rattle.gap_trace.specs.declared.halt.Halt.{Halt}
 use Rattle.gap_trace.specs.Steps.{IsUnstarted}
-use Rattle.gap_trace.proofs.MarkLaws.{filed-append, filed-appends, filed-prints, length-appends}
+use Rattle.gap_trace.proofs.MarkLaws.{filed-append, filed-appends, filed-prints, length-appends, last_filed}
 use Rattle.gap_sweep.specs.Asked.{Asked, Done}
-use Rattle.gap_sweep.specs.Texts.{head_bytes, end_bytes, market_text, weight_text, portfolio_text, frontier_text}
+use Rattle.gap_sweep.specs.Texts.{head_bytes, market_text, weight_text, portfolio_text, frontier_text}
 use Rattle.gap_sweep.specs.Traces.{opening_trace, weight_trace, weights_trace, closing_trace, begun_trace, whole_trace}
 use Rattle.gap_sweep.specs.Runs.{HasDone, Finished, Stopped, under_way, at_the_end, Leaves, unstarted, stopped, Runs}
 use Rattle.gap_sweep.specs.Certified.{sections_of, certificate, IsProperFront, IsCertified, IsCut}
-use Rattle.gap_sweep.proofs.PartLaws.{end_some}
-
-spelled_behind : (last : Option Witness) (a b : List Field) → spelled Two last (a ++ b) ≡ spelled Two last a ++ spelled Two (last_of last a) b
-unfolding spelled
-spelled_behind last [] b = refl
-spelled_behind last (f ∷ a) b =
-    ap (λ (x : List ℕ). bytes_of Two last f ++ x) (spelled_behind (last_behind last f) a b)
-    ∙ sym (append_assoc (bytes_of Two last f) (spelled Two (last_behind last f) a) (spelled Two (last_of (last_behind last f) a) b))
 
 -- the bytes of sections, one behind the other
 abbrev sections_bytes : List CertSection → List ℕ
@@ -173,34 +166,6 @@ front_proper asked shift done part rest split more count = record {
       ∙ ap (λ (x : List ℕ). x ++ (sections_bytes more ++ end_bytes)) (ap filed split ∙ filed-append part rest)
       ∙ append_assoc (filed part) (filed rest) (sections_bytes more ++ end_bytes);
 }
-
-filed_most : (trace : List Mark) → length (filed trace) ≤ length trace
-filed_most [] = omega arith
-filed_most (to_file byte ∷ trace) = let h = filed_most trace in omega arith
-filed_most (to_sink byte ∷ trace) = let h = filed_most trace in omega arith
-
-tail_same : (m n : Mark) (a b : List Mark) → m ∷ a ≡ n ∷ b → a ≡ b
-tail_same m n a b same = cc
-
--- what is left of a trace that ends in the file has bytes for the file
-last_filed : (a part rest : List Mark) (bytes : List ℕ) → 0 < length bytes → 0 < length rest → a ++ appends bytes ≡ part ++ rest → 0 < length (filed rest)
-last_filed a [] rest bytes some left split =
-    let e = ap (λ (x : List Mark). length (filed x)) split in
-    let l = ap length (filed-append a (appends bytes)) in
-    let m = length-append (filed a) (filed (appends bytes)) in
-    let n = ap length (filed-appends bytes) in
-    omega arith
-last_filed [] (mark ∷ part) rest bytes some left split =
-    let e = ap (λ (x : List Mark). length (filed x)) split in
-    let k = ap length split in
-    let l = ap length (filed-append (mark ∷ part) rest) in
-    let m = length-append (filed (mark ∷ part)) (filed rest) in
-    let n = ap length (filed-appends bytes) in
-    let o = length-appends bytes in
-    let p = filed_most (mark ∷ part) in
-    let q = length-append (mark ∷ part) rest in
-    omega arith
-last_filed (first ∷ a) (mark ∷ part) rest bytes some left split = last_filed a part rest bytes some left (tail_same first mark (a ++ appends bytes) (part ++ rest) split)
 
 -- a proper front of the whole is a proper front of the certificate
 less_proper : (asked : Asked) (shift : ShiftValue) (done : List Done) (part rest : List Mark) → 0 < length rest → whole_trace asked shift done ≡ part ++ rest

@@ -6,19 +6,20 @@ use Rattle.gap_files.specs.Outside.{FilesNow, SinkNow, bytes_of}
 use Rattle.gap_instance.specs.Instances.{InstanceValue}
 use Rattle.gap_psd.specs.Shifts.{ShiftValue}
 use Rattle.gap_trace.specs.Marks.{Mark, appends, prints, filed, printed, Streams, stream, streams, started, Did, DidFront, DidLess}
-use Rattle.gap_trace.specs.Steps.{Step, Keeps, HasCause, IsUnstarted, Opens}
+use Rattle.gap_trace.specs.Steps.{Step, Keeps, HasCause, IsUnstarted, Opens, Closes}
 use Rattle.gap_trace.specs.declared.halt.Halt.{Halt}
 use Rattle.gap_trace.specs.declared.halt.Halt.TheVariants.{OutOfMemory}
-use Rattle.gap_trace.proofs.MarkLaws.{did_none, did_both, front_of_more, front_behind, less_of_front, less_behind, length-appends}
+use Rattle.gap_writer.specs.Writing.{end_bytes}
+use Rattle.gap_trace.proofs.MarkLaws.{did_none, did_both, front_of_more, front_behind, less_of_front, less_behind, length-appends, appends_some}
 use Rattle.gap_trace.proofs.StepLaws.{keeps_both, cause_later, then_step, stops_early, gives_up_at_once, step_front}
 use Rattle.gap_sweep.specs.declared.style.Style.{Style}
 use Rattle.gap_sweep.specs.declared.carried.Carried.{Carried}
 use Rattle.gap_sweep.specs.Asked.{Asked, Done, IsShiftOf}
-use Rattle.gap_sweep.specs.Texts.{end_bytes, frontier_text}
+use Rattle.gap_sweep.specs.Texts.{frontier_text}
 use Rattle.gap_sweep.specs.Traces.{opening_trace, weights_trace, closing_trace, begun_trace, whole_trace}
 use Rattle.gap_sweep.specs.Runs.{HasDone, Finished, Stopped, under_way, at_the_end, Leaves, unstarted, stopped, Runs}
-use Rattle.gap_sweep.specs.Steps.{Sweeps, Closes, GoesOn}
-use Rattle.gap_sweep.proofs.PartLaws.{end_marks}
+use Rattle.gap_sweep.specs.Steps.{Sweeps, GoesOn}
+use Rattle.gap_writer.proofs.ItemLaws.{end_some}
 
 -- it stopped before the end mark
 pub closes_early : (I : InstanceValue) (style : Style) (done : List Done) (name : List ℕ) (f : FilesNow) (s : SinkNow) (g : FilesNow) (t : SinkNow) (halt : Halt)
@@ -26,7 +27,7 @@ pub closes_early : (I : InstanceValue) (style : Style) (done : List Done) (name 
 unfolding closing_trace
 closes_early I style done name f s g t halt step = record {
   step = stops_early name f s g t (prints (frontier_text I style done)) (appends end_bytes) halt step;
-  less = λ err. less_of_front (streams name f s) (streams name g t) (prints (frontier_text I style done)) (appends end_bytes) end_marks step.does;
+  less = λ err. less_of_front (streams name f s) (streams name g t) (prints (frontier_text I style done)) (appends end_bytes) (appends_some end_bytes end_some) step.does;
 }
 
 -- the end mark behind the lines

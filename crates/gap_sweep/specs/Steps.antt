@@ -56,12 +56,6 @@ pub record Sweeps (I : InstanceValue) (shift : ShiftValue) (nodes : ℕ) (weight
   pub carries : IsOk result → IsCarried I carried done
   pub step : Step name f s g t (weights_trace I.lots done) result
 
--- the last step: what is due was put out, or it stopped with a proper front of it
-pub record Closes (name : List ℕ) (f : FilesNow) (s : SinkNow) (g : FilesNow) (t : SinkNow) (due : List Mark)
-    (result : Result (Unit {0}) Halt) : Type 0 where
-  pub step : Step name f s g t due result
-  pub less : IsErr result → DidLess (streams name f s) (streams name g t) due
-
 abbrev pub Ends : Asked → List ℕ → FilesNow → SinkNow → FilesNow → SinkNow → Result (Unit {0}) Halt → Type 0
 Ends asked name f s g t (Ok value) = Finished asked (streams name f s) (streams name g t)
 Ends asked name f s g t (Err halt) = Stopped asked (streams name f s) (streams name g t)

@@ -25,10 +25,6 @@ use Rattle.gap_sweep.specs.Asked.{Done}
 unfoldable pub head_bytes : InstanceValue → ShiftValue → ℕ → ℕ → List ℕ
 head_bytes I shift nodes count = spelled Two None (head_fields (head_of I shift nodes) ++ (field.Sections count ∷ []))
 
--- the bytes of the end mark
-unfoldable pub end_bytes : List ℕ
-end_bytes = spelled Two None (field.End ∷ [])
-
 -- the line of the market, where it comes
 abbrev pub market_text : Style → InstanceValue → ℕ → ShiftValue → List ℕ
 market_text Whole I rounded shift = market_line I.market.assets rounded (total_of shift)

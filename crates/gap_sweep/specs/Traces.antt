@@ -6,9 +6,10 @@ use Rattle.gap_psd.specs.Shifts.{ShiftValue}
 use Rattle.gap_sections.specs.Filled.{section_bytes}
 use Rattle.gap_solve.specs.Ends.{best_in}
 use Rattle.gap_trace.specs.Marks.{Mark, appends, prints}
+use Rattle.gap_writer.specs.Writing.{end_bytes}
 use Rattle.gap_sweep.specs.declared.style.Style.{Style}
 use Rattle.gap_sweep.specs.Asked.{Asked, Done}
-use Rattle.gap_sweep.specs.Texts.{head_bytes, end_bytes, market_text, weight_text, portfolio_text, frontier_text}
+use Rattle.gap_sweep.specs.Texts.{head_bytes, market_text, weight_text, portfolio_text, frontier_text}
 
 -- before any weight: the head into the file, then the line of the market
 unfoldable pub opening_trace : Asked → ShiftValue → List Mark

@@ -2,9 +2,9 @@
 ghost use Rattle.std.specs.Prelude.{◌≡◌, ℕ, List, length};
 ghost use Rattle.gap_files.specs.Outside.{FilesNow};
 ghost use Rattle.gap_trace.specs.Marks.{prints};
-ghost use Rattle.gap_trace.specs.Steps.{Step};
+ghost use Rattle.gap_trace.specs.Steps.{Step, Closes};
 ghost use Rattle.gap_sweep.specs.Asked.{Done};
-ghost use Rattle.gap_sweep.specs.Steps.{IsCarried, Closes};
+ghost use Rattle.gap_sweep.specs.Steps.{IsCarried};
 ghost use Rattle.gap_sweep.specs.Texts.{frontier_text};
 ghost use Rattle.gap_sweep.specs.Traces.{closing_trace};
 

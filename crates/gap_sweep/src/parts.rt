@@ -2,9 +2,9 @@
 ghost use Rattle.std.specs.Prelude.{◌≡◌};
 ghost use Rattle.gap_files.specs.Outside.{SinkNow};
 ghost use Rattle.gap_trace.specs.Marks.{appends};
-ghost use Rattle.gap_trace.specs.Steps.{Step};
-ghost use Rattle.gap_sweep.specs.Steps.{Closes};
-ghost use Rattle.gap_sweep.specs.Texts.{head_bytes, end_bytes};
+ghost use Rattle.gap_trace.specs.Steps.{Step, Closes};
+ghost use Rattle.gap_writer.specs.Writing.{end_bytes};
+ghost use Rattle.gap_sweep.specs.Texts.{head_bytes};
 
 use gap_files::Files;
 use gap_instance::Instance;

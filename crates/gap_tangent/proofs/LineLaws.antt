@@ -20,8 +20,9 @@ use Rattle.gap_model.proofs.ThetaLaws.{theta_is, theta_some, void_theta_is}
 use Rattle.gap_price.specs.declared.costs.Varied.TheVariants.{Lots, Distance}
 use Rattle.gap_price.specs.Costs.{asset_cost}
 use Rattle.gap_price.specs.Curves.{CurveValue, costs_of as price_costs, weights_of, IsLeastAt}
-use Rattle.gap_price.proofs.CurveLaws.{priced_of, priced_are}
+use Rattle.gap_price.proofs.CurveLaws.{priced_are}
 use Rattle.gap_price.proofs.OfferLaws.{priced_is}
+use Rattle.gap_price.specs.Offers.{priced_of}
 use Rattle.gap_tangent.specs.Lines.{or_zero, alpha_curve, tau_curve, curve_at, IsCostLine, IsCurveOf}
 use Rattle.gap_tangent.specs.Terms.{costs_of, turnover_price, limits_price, AreTermsAt}
 use Rattle.gap_tangent.proofs.TermLaws.{lag_terms, void_terms, costs_are}

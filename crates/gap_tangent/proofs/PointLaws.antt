@@ -9,6 +9,8 @@ use Rattle.gap_base.proofs.Ring.{expand, pull, linear, *ℤ_assoc}
 use Rattle.gap_model.specs.Settings.{Setting, IsSetting}
 use Rattle.gap_model.specs.Lagrangian.{reward_of}
 use Rattle.gap_model.specs.Leaves.{IsPoint}
+use Rattle.gap_tangent.specs.declared.terms.TangentTerms.{TangentTerms}
+use Rattle.gap_tangent.specs.Kept.{AreTermsOf}
 use Rattle.gap_tangent.specs.Points.{IsKeptPoint, IsKeptTangent}
 use Rattle.gap_tangent.specs.Terms.{tilt_of, gradient_of, slope_of, constant_at, AreTermsAt, AreBends, AreSmall}
 use Rattle.gap_tangent.proofs.SizeLaws.{gradient_small, constant_small}
@@ -45,3 +47,14 @@ kept_small s y bends slopes constant is b t = record {
 
 pub kept_constant : (s : Setting) (y : List ℕ) (bends slopes : List ℤ) (constant : ℤ) → IsSetting s → IsKeptTangent s y bends slopes constant → unsigned_abs constant ≤ most_constant
 kept_constant s y bends slopes constant is t = subst (λ (z : ℤ). unsigned_abs z ≤ most_constant) (sym t.terms.constant_is) (constant_small s y is t.point)
+
+-- ---- terms without their bound
+
+pub terms_of : (s : Setting) (y : List ℕ) (bends slopes : List ℤ) (constant : ℤ) → IsKeptTangent s y bends slopes constant → AreTermsOf s (record { eighths = y; slopes = slopes; constant = constant })
+terms_of s y bends slopes constant t = record { point = t.point; room = t.room; slopes_are = t.terms.slopes_are; constant_is = t.terms.constant_is }
+
+pub tangent_from : (s : Setting) (terms : TangentTerms) (bends : List ℤ) → AreBends s bends → AreTermsOf s terms → IsKeptTangent s terms.eighths bends terms.slopes terms.constant
+tangent_from s terms bends b t = record { point = t.point; room = t.room; terms = record { slopes_are = t.slopes_are; bends_are = b.are; constant_is = t.constant_is } }
+
+pub terms_constant : (s : Setting) (terms : TangentTerms) → IsSetting s → AreTermsOf s terms → unsigned_abs terms.constant ≤ most_constant
+terms_constant s terms is t = subst (λ (z : ℤ). unsigned_abs z ≤ most_constant) (sym t.constant_is) (constant_small s terms.eighths is t.point)

@@ -13,11 +13,8 @@ use Rattle.gap_model.specs.Limits.{meets_limits}
 use Rattle.gap_model.proofs.LimitLaws.{meets_true, meets_from}
 use Rattle.gap_model.specs.declared.leaf.Entry.{Entry}
 use Rattle.gap_model.specs.Settings.{Setting}
-use Rattle.gap_model.specs.Leaves.{is_zero, ascend, are_multipliers, AreEntries, AreMultipliers, sixty_fourth}
-use Rattle.gap_model.proofs.LeafLaws.{sixty_fourth_reached, sixty_fourth_least, entries_are, multipliers_are}
-
-pub sixty_fourth_from : (v c : ℤ) → v ≤ℤ (pos 64 *ℤ c) → ((d : ℤ) → v ≤ℤ (pos 64 *ℤ d) → c ≤ℤ d) → c ≡ sixty_fourth v
-sixty_fourth_from v c h k = let a = sixty_fourth_least v c h in let b = k (sixty_fourth v) (sixty_fourth_reached v) in omega (arith, ints)
+use Rattle.gap_model.specs.Leaves.{is_zero, ascend, are_multipliers, AreEntries, AreMultipliers}
+use Rattle.gap_model.proofs.LeafLaws.{entries_are, multipliers_are}
 
 -- a tangent leaf in range
 pub record IsTangentInRange (s : Setting) (y : List Entry) (alpha tau : ℤ) : Type 0 where

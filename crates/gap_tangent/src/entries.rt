@@ -15,8 +15,9 @@ fn entry_at(entries: &[Entry], k: usize) -> Entry
     entries[k]
 }
 
-/// The list of `n` numbers of eighths that the entries give.
-pub(crate) fn point_from(n: u16, entries: &[Entry]) -> Eighths
+/// The list of `n` numbers of eighths that the entries give: 0 for an asset without an entry. Costs O(n), and takes no
+/// memory.
+pub fn point_from(n: u16, entries: &[Entry]) -> Eighths
     requires least { 2 ≤ n }
     requires most { n ≤ 256 }
     requires entries { AreEntries n entries.now }

@@ -23,13 +23,16 @@ mod rows;
 mod shows;
 mod slopes;
 mod tangent;
+mod terms;
 mod thetas;
 
 pub use curves::{AlphaCurve, TauCurve};
+pub use entries::point_from;
 pub use gap_base::{Eighths, Witness};
 pub use mean_variance::MeanVariance;
 pub use point::Point;
 pub use tangent::Tangent;
+pub use terms::TangentTerms;
 pub use thetas::{theta, void_theta};
 
 #[cfg(test)]

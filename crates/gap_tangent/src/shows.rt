@@ -3,15 +3,15 @@
 ghost use Rattle.std.specs.Prelude.{◌≡◌, ◌*◌, ◌<◌, ◌≤◌, cond, sum_by};
 ghost use Rattle.gap_box.specs.Parts.{can_meet, IsWithin, root_cells};
 ghost use Rattle.gap_model.specs.declared.leaf.Entry.{Entry};
-ghost use Rattle.gap_model.specs.declared.shown.Shown.TheVariants.{Nothing, AtLeast, Empty};
-ghost use Rattle.gap_model.specs.Leaves.{eighths_at, is_zero, count_shows, void_shows, tangent_shows, sixty_fourth, AreEntries, AreMultipliers};
+ghost use Rattle.gap_model.specs.declared.shown.Shown.TheVariants.{Nothing};
+ghost use Rattle.gap_model.specs.Leaves.{eighths_at, is_zero, count_shows, void_shows, tangent_shows, AreEntries, AreMultipliers};
 ghost use Rattle.gap_model.specs.Theta.{theta, void_theta};
 ghost use Rattle.gap_tangent.specs.Seen.{setting_of};
 
 use crate::entries::point_from;
 use crate::mean_variance::MeanVariance;
 use crate::thetas::{theta, void_theta};
-use gap_base::{Witness, ceil_div64};
+use gap_base::Witness;
 use gap_box::Part;
 use gap_model::{Entry, Shown};
 
@@ -20,11 +20,7 @@ pub(crate) fn count_shown(mv: &MeanVariance<'_>, part: &Part) -> Shown
     ensures { result ≡ count_shows
         (can_meet part.now (setting_of mv.now).instance.held (setting_of mv.now).instance.held_most) }
 {
-    if part.count_within(mv.instance.held(), mv.instance.held_most()) {
-        Shown::Nothing
-    } else {
-        Shown::Empty
-    }
+    Shown::of_count(part.count_within(mv.instance.held(), mv.instance.held_most()))
 }
 
 /// Is the third multiplier 0?
@@ -32,33 +28,6 @@ fn is_zero(third: i128) -> bool
     ensures { result ≡ is_zero third }
 {
     third == 0
-}
-
-/// What a theta of the multipliers alone shows: Empty where it is above 0.
-fn void_of(theta: Option<i128>) -> Shown
-    ensures { result ≡ void_shows theta }
-{
-    match theta {
-        None => Shown::Empty,
-        Some(t) => { if 0 < t { Shown::Empty } else { Shown::Nothing } }
-    }
-}
-
-/// The 64th part of a theta, brought up to a whole number.
-fn bound_of(theta: i128) -> i128
-    ensures { result ≡ sixty_fourth theta }
-{
-    ceil_div64(theta)
-}
-
-/// What a theta shows: its 64th part, brought up to a whole number.
-fn tangent_of(theta: Option<i128>) -> Shown
-    ensures { result ≡ tangent_shows theta }
-{
-    match theta {
-        None => Shown::Empty,
-        Some(t) => Shown::AtLeast(bound_of(t)),
-    }
 }
 
 /// What a void leaf shows.
@@ -75,7 +44,7 @@ pub(crate) fn void_shown(
     ensures { result ≡ cond (is_zero third) (void_shows (void_theta (setting_of mv.now) part.now alpha tau)) Nothing }
 {
     if is_zero(third) {
-        void_of(void_theta(mv, part, alpha, tau))
+        Shown::of_void(void_theta(mv, part, alpha, tau))
     } else {
         Shown::Nothing
     }
@@ -116,7 +85,7 @@ pub(crate) fn tangent_shown(
         (tangent_shows (theta (setting_of mv.now) part.now (eighths_at y.now) alpha tau)) Nothing }
 {
     if is_zero(third) {
-        tangent_of(theta_of(mv, part, y, alpha, tau))
+        Shown::of_tangent(theta_of(mv, part, y, alpha, tau))
     } else {
         Shown::Nothing
     }

@@ -2,6 +2,7 @@
 
 use super::*;
 use gap_files::{MemoryFiles, MemorySink, SteadyFiles, SteadySink};
+use gap_samples::certificates::{ONE, TWO};
 use std::test::Fail;
 
 /// Two assets that aren't correlated.
@@ -147,35 +148,11 @@ fn solved(alloc: Global, port: &str, job: &str) -> Result<(u8, SteadySink, Stead
     Ok((status, sink, files))
 }
 
-/// The certificate of two assets in ten lots of which both are held, for risk alone: 191 bytes, in hexadecimal.
-const CERTIFICATE: &str =
-    "47415043455254320002000a000200020000000000000003e8000186a00001000a0000000007d000030d400001000a00000000000000005af3107a400000000000000000000000b5e620f480000000000000000000000000000000000000000000000000000000000000000000010101010002000100080002000200000000000000000b1a2bc2ec50000000030002000100000040000200000010ffffffffffffffff71e43640fc00000000000000000000000000000000000000454e440a";
-
-/// Bytes in hexadecimal.
-fn hexadecimal(alloc: Global, bytes: &[u8]) -> Result<String, Fail> {
-    let digits = b"0123456789abcdef";
-    let mut text = String::new(alloc);
-    for byte in bytes {
-        text.push(char::from(digits[usize::from(*byte / 16)]))?;
-        text.push(char::from(digits[usize::from(*byte % 16)]))?;
-    }
-    Ok(text)
-}
-
 #[test]
 fn solve_leaves_the_certificate(rt: HostRuntime) -> Result<(), Fail> {
-    let alloc = rt.alloc();
-    let (status, _, files) = solved(
-        alloc,
-        A,
-        r#"{"lots":10,"held":2,"weights":[[1,1]],"nodes":0}"#,
-    )?;
+    let (status, _, files) = solved(rt.alloc(), A, JOB)?;
     assert_eq!(rt; status, 0);
-    let Some(bytes) = files.content("CERT") else {
-        assert!(rt; false, "there is no CERT");
-        return Ok(());
-    };
-    assert_eq!(rt; hexadecimal(alloc, bytes)?.as_str(), CERTIFICATE);
+    assert_eq!(rt; files.content("CERT"), Some(TWO.as_slice()));
     Ok(())
 }
 
@@ -340,31 +317,24 @@ fn told(alloc: Global, files: &mut SteadyFiles, line: &str) -> Result<(u8, Stead
     Ok((status, sink))
 }
 
-/// The bytes of the certificate in the files.
-fn certificate(alloc: Global, files: &SteadyFiles) -> Result<Vec<u8>, Fail> {
-    let mut bytes = Vec::new(alloc);
-    bytes.extend_from_slice(files.content("CERT").unwrap_or(b"".as_slice()))?;
-    Ok(bytes)
-}
-
 #[test]
 fn check_tells_what_a_certificate_says(rt: HostRuntime) -> Result<(), Fail> {
     let alloc = rt.alloc();
-    let (_, _, mut files) = solved(alloc, A, JOB)?;
-    let mut cut = certificate(alloc, &files)?;
-    cut.truncate(187);
-    files.put("CUT", cut.as_slice())?;
-    let mut longer = certificate(alloc, &files)?;
-    longer.push(0)?;
+    let mut files = SteadyFiles::new(alloc);
+    files.put("PORT", A.as_bytes())?;
+    files.put("ONE", ONE.as_slice())?;
+    files.put("TWO", TWO.as_slice())?;
+    files.put("CUT", &TWO[..187])?;
+    let mut longer = [0u8; 192];
+    longer[..191].copy_from_slice(&TWO);
     files.put("LONGER", longer.as_slice())?;
     // the last byte of the objective
-    let mut raised = certificate(alloc, &files)?;
-    if let Some(byte) = raised.get_mut(138) {
-        *byte = byte.wrapping_add(1);
-    }
+    let mut raised = TWO;
+    raised[138] = 1;
     files.put("RAISED", raised.as_slice())?;
     let rows = [
-        ("check CERT", 0, VERDICT),
+        ("check ONE", 0, VERDICT),
+        ("check TWO", 0, VERDICT),
         ("check CUT", 7, "certificate Short 187\n"),
         ("check LONGER", 7, "certificate Trail 191\n"),
         (
@@ -433,40 +403,22 @@ fn verify_compares_a_certificate(rt: HostRuntime) -> Result<(), Fail> {
     Ok(())
 }
 
-/// The same certificate in version 1: without the greatest number held, at 14, and the number of entries, at 113.
-fn version_one(alloc: Global, two: &[u8]) -> Result<Vec<u8>, Fail> {
-    let mut one = Vec::new(alloc);
-    let mut place = 0u32;
-    for byte in two {
-        match place {
-            7 => one.push(b'1')?,
-            14 | 15 | 113 | 114 => {}
-            _ => one.push(*byte)?,
-        }
-        place = place.saturating_add(1);
-    }
-    Ok(one)
-}
-
 #[test]
 fn upgrade_writes_version_two(rt: HostRuntime) -> Result<(), Fail> {
     let alloc = rt.alloc();
-    let (_, _, mut files) = solved(alloc, A, JOB)?;
-    let two = certificate(alloc, &files)?;
-    let mut one = version_one(alloc, &two)?;
-    assert_eq!(rt; one.len(), 187);
-    files.put("ONE", one.as_slice())?;
+    let mut files = SteadyFiles::new(alloc);
+    files.put("PORT", A.as_bytes())?;
+    files.put("ONE", ONE.as_slice())?;
     for (line, name) in [("upgrade ONE NEW", "NEW"), ("upgrade NEW AGAIN", "AGAIN")] {
         let (found, sink) = told(alloc, &mut files, line)?;
         assert_eq!(rt; found, 0, "{line}");
         assert_eq!(rt; sink.bytes(), VERDICT.as_bytes(), "{line}");
-        let text = hexadecimal(alloc, files.content(name).unwrap_or(b"".as_slice()))?;
-        assert_eq!(rt; text.as_str(), CERTIFICATE, "{line}");
+        assert_eq!(rt; files.content(name), Some(TWO.as_slice()), "{line}");
     }
-    if let Some(byte) = one.get_mut(7) {
-        *byte = b'2';
-    }
-    files.put("MIXED", one.as_slice())?;
+    // read as version 2, the greatest number held is 0
+    let mut mixed = ONE;
+    mixed[7] = b'2';
+    files.put("MIXED", mixed.as_slice())?;
     let rows = [
         ("upgrade MIXED NEW", 7, "certificate Range 14\n"),
         ("check MIXED", 7, "certificate Range 14\n"),
@@ -477,48 +429,7 @@ fn upgrade_writes_version_two(rt: HostRuntime) -> Result<(), Fail> {
         assert_eq!(rt; found, status, "{line}");
         assert_eq!(rt; sink.bytes(), text.as_bytes(), "{line}");
     }
-    let text = hexadecimal(alloc, files.content("NEW").unwrap_or(b"".as_slice()))?;
-    assert_eq!(rt;
-        text.as_str(),
-        CERTIFICATE,
-        "a refusal leaves NEW as it was"
-    );
-    Ok(())
-}
-
-#[test]
-fn upgrade_meets_faults_of_the_outside(rt: HostRuntime) -> Result<(), Fail> {
-    let alloc = rt.alloc();
-    let words = words_of(alloc, "upgrade ONE NEW")?;
-    let (_, _, solved) = solved(alloc, A, JOB)?;
-    let one = version_one(alloc, &certificate(alloc, &solved)?)?;
-    // two reads, the start, a read and what it gives appended, the read of the end, and the end mark
-    let rows = [
-        (1u64, 3),
-        (2, 3),
-        (3, 4),
-        (4, 3),
-        (5, 4),
-        (6, 3),
-        (7, 4),
-        (8, 0),
-    ];
-    for (k, due) in rows {
-        let mut files = MemoryFiles::new(alloc, vec![in alloc; k]?);
-        files.put("ONE", one.as_slice())?;
-        let mut sink = MemorySink::new(alloc, Vec::new(alloc));
-        assert_eq!(rt; run(alloc, &words, &mut files, &mut sink), due, "call {k}");
-        let bytes = files.content("NEW").unwrap_or(b"".as_slice());
-        let text = hexadecimal(alloc, bytes)?;
-        assert_eq!(rt; bytes.len() == 191, due == 0, "call {k}");
-        assert!(rt; CERTIFICATE.starts_with(text.as_str()), "call {k}");
-    }
-    let mut files = SteadyFiles::new(alloc);
-    files.put("ONE", one.as_slice())?;
-    let mut broken = MemorySink::new(alloc, vec![in alloc; 1u64]?);
-    assert_eq!(rt; run(alloc, &words, &mut files, &mut broken), 4, "the write");
-    let bytes = files.content("NEW").unwrap_or(b"".as_slice());
-    assert_eq!(rt; bytes.len(), 187, "the end mark is missing");
+    assert_eq!(rt; files.content("NEW"), Some(TWO.as_slice()), "as it was");
     Ok(())
 }
 
@@ -534,73 +445,9 @@ fn demo_is_the_same_at_each_run(rt: HostRuntime) -> Result<(), Fail> {
             .starts_with(b"assets 31 rounded 0 shift ".as_slice())
     );
     // the market's line, and for each weight two lines and one of the frontier
-    let mut lines = 0u32;
-    for byte in first.bytes() {
-        if *byte == b'\n' {
-            lines = lines.saturating_add(1);
-        }
-    }
-    assert_eq!(rt; lines, 16);
+    assert_eq!(rt; lines_in(first.bytes()), 16);
     let (_, second) = told(alloc, &mut files, "demo 7 31 10 100 20")?;
     assert_eq!(rt; first.bytes(), second.bytes());
-    Ok(())
-}
-
-#[test]
-fn check_meets_faults_of_the_outside(rt: HostRuntime) -> Result<(), Fail> {
-    let alloc = rt.alloc();
-    let words = words_of(alloc, "check CERT")?;
-    let (_, _, files) = solved(alloc, A, JOB)?;
-    let bytes = certificate(alloc, &files)?;
-    // the second read comes behind the last byte
-    for k in 1..3u64 {
-        let mut unread = MemoryFiles::new(alloc, vec![in alloc; k]?);
-        unread.put("CERT", bytes.as_slice())?;
-        let mut sink = MemorySink::new(alloc, Vec::new(alloc));
-        assert_eq!(rt; run(alloc, &words, &mut unread, &mut sink), 3, "read {k}");
-        assert_eq!(rt; sink.bytes(), b"".as_slice(), "read {k}");
-    }
-    let mut whole = MemoryFiles::new(alloc, Vec::new(alloc));
-    whole.put("CERT", bytes.as_slice())?;
-    let mut broken = MemorySink::new(alloc, vec![in alloc; 1u64]?);
-    assert_eq!(rt; run(alloc, &words, &mut whole, &mut broken), 4, "the write");
-    assert_eq!(rt; run(alloc, &words, &mut whole, &mut broken), 0, "the next");
-    assert_eq!(rt; broken.bytes(), VERDICT.as_bytes());
-    Ok(())
-}
-
-#[test]
-fn faults_of_the_outside(rt: HostRuntime) -> Result<(), Fail> {
-    let alloc = rt.alloc();
-    let words = words_of(alloc, "quick PORT 2 10 1 1 0")?;
-    let mut missing = MemoryFiles::new(alloc, Vec::new(alloc));
-    let mut sink = MemorySink::new(alloc, Vec::new(alloc));
-    assert_eq!(rt;
-        run(alloc, &words, &mut missing, &mut sink),
-        3,
-        "PORT is missing"
-    );
-    assert_eq!(rt; sink.bytes(), b"".as_slice());
-    let mut second_fails = MemoryFiles::new(alloc, vec![in alloc; 2u64]?);
-    second_fails.put("PORT", A.as_bytes())?;
-    assert_eq!(rt;
-        run(alloc, &words, &mut second_fails, &mut sink),
-        3,
-        "the second read fails"
-    );
-    let mut files = MemoryFiles::new(alloc, Vec::new(alloc));
-    files.put("PORT", A.as_bytes())?;
-    let mut broken = MemorySink::new(alloc, vec![in alloc; 1u64]?);
-    assert_eq!(rt;
-        run(alloc, &words, &mut files, &mut broken),
-        4,
-        "the write fails"
-    );
-    assert_eq!(rt;
-        run(alloc, &words, &mut files, &mut broken),
-        0,
-        "the next doesn't"
-    );
     Ok(())
 }
 
@@ -615,46 +462,144 @@ fn keeps_a_refusal_whose_line_fails(rt: HostRuntime) -> Result<(), Fail> {
     Ok(())
 }
 
+/// What is answered to these words over a port file, a job, its certificate and this in version 1, where one call on the
+/// files and one write are to fail, by their numbers from 1; with 0 none is.
+fn failing(
+    alloc: Global,
+    line: &str,
+    call: u64,
+    write: u64,
+) -> Result<(u8, MemoryFiles, MemorySink), Fail> {
+    let words = words_of(alloc, line)?;
+    let mut files = MemoryFiles::new(alloc, vec![in alloc; call]?);
+    files.put("PORT", A.as_bytes())?;
+    files.put("JOB", JOB.as_bytes())?;
+    files.put("CERT", TWO.as_slice())?;
+    files.put("ONE", ONE.as_slice())?;
+    let mut sink = MemorySink::new(alloc, vec![in alloc; write]?);
+    let status = run(alloc, &words, &mut files, &mut sink);
+    Ok((status, files, sink))
+}
+
+/// How many lines these bytes are.
+fn lines_in(bytes: &[u8]) -> u32 {
+    let mut lines = 0u32;
+    for byte in bytes {
+        if *byte == b'\n' {
+            lines = lines.saturating_add(1);
+        }
+    }
+    lines
+}
+
+// Words, and the file that they have a certificate written to or read from.
+const QUICK: (&str, &str) = ("quick PORT 2 10 1 1 0", "");
+
+const SOLVE: (&str, &str) = ("solve PORT JOB NEW", "NEW");
+
+const CHECK: (&str, &str) = ("check CERT", "CERT");
+
+const VERIFY: (&str, &str) = ("verify PORT JOB CERT", "CERT");
+
+const UPGRADE: (&str, &str) = ("upgrade ONE NEW", "NEW");
+
 #[test]
-fn a_failing_append_leaves_a_front(rt: HostRuntime) -> Result<(), Fail> {
-    let alloc = rt.alloc();
-    let words = words_of(alloc, "solve PORT JOB CERT")?;
-    // the calls are two reads of each file, the start, and the appends of head, section and end mark
-    for k in 1..9u64 {
-        let mut files = MemoryFiles::new(alloc, vec![in alloc; k]?);
-        files.put("PORT", A.as_bytes())?;
-        files.put(
-            "JOB",
-            br#"{"lots":10,"held":2,"weights":[[1,1]],"nodes":0}"#.as_slice(),
-        )?;
-        let mut sink = MemorySink::new(alloc, Vec::new(alloc));
-        let status = run(alloc, &words, &mut files, &mut sink);
-        let due = if k < 5 { 3 } else { 4 };
-        assert_eq!(rt; status, due, "call {k}");
-        let bytes = files.content("CERT").unwrap_or(b"".as_slice());
-        let text = hexadecimal(alloc, bytes)?;
-        assert!(rt; bytes.len() < 191, "call {k}");
-        assert!(rt; CERTIFICATE.starts_with(text.as_str()), "call {k}");
+fn a_failing_call_on_files_has_its_status_and_leaves_a_front(rt: HostRuntime) -> Result<(), Fail> {
+    // the words; the call that is to fail, at last none; the status, the lines printed, the length of the certificate
+    let rows = [
+        (QUICK, 1u64, 3u8, 0u32, 0usize),
+        (QUICK, 2, 3, 0, 0),
+        (QUICK, 3, 4, 0, 0),
+        (QUICK, 4, 4, 0, 0),
+        (QUICK, 5, 4, 0, 110),
+        (QUICK, 6, 4, 2, 187),
+        (QUICK, 7, 0, 2, 191),
+        (SOLVE, 1, 3, 0, 0),
+        (SOLVE, 2, 3, 0, 0),
+        (SOLVE, 3, 3, 0, 0),
+        (SOLVE, 4, 3, 0, 0),
+        (SOLVE, 5, 4, 0, 0),
+        (SOLVE, 6, 4, 0, 0),
+        (SOLVE, 7, 4, 1, 110),
+        (SOLVE, 8, 4, 4, 187),
+        (SOLVE, 9, 0, 4, 191),
+        (CHECK, 1, 3, 0, 191),
+        (CHECK, 2, 3, 0, 191),
+        (CHECK, 3, 0, 2, 191),
+        (VERIFY, 1, 3, 0, 191),
+        (VERIFY, 2, 3, 0, 191),
+        (VERIFY, 3, 3, 0, 191),
+        (VERIFY, 4, 3, 0, 191),
+        (VERIFY, 5, 3, 0, 191),
+        (VERIFY, 6, 3, 0, 191),
+        (VERIFY, 7, 0, 2, 191),
+        (UPGRADE, 1, 3, 0, 0),
+        (UPGRADE, 2, 3, 0, 0),
+        (UPGRADE, 3, 4, 0, 0),
+        (UPGRADE, 4, 3, 0, 0),
+        (UPGRADE, 5, 4, 0, 0),
+        (UPGRADE, 6, 3, 0, 187),
+        (UPGRADE, 7, 4, 2, 187),
+        (UPGRADE, 8, 0, 2, 191),
+    ];
+    for ((line, name), call, due, lines, length) in rows {
+        let (status, files, sink) = failing(rt.alloc(), line, call, 0)?;
+        assert_eq!(rt; status, due, "{line}, call {call}");
+        assert_eq!(rt; lines_in(sink.bytes()), lines, "{line}, call {call}");
+        let bytes = files.content(name).unwrap_or(b"".as_slice());
+        assert_eq!(rt; bytes.len(), length, "{line}, call {call}");
+        assert!(rt; TWO.starts_with(bytes), "{line}, call {call}");
     }
     Ok(())
 }
 
 #[test]
-fn a_failing_write_leaves_a_front(rt: HostRuntime) -> Result<(), Fail> {
-    let alloc = rt.alloc();
-    let words = words_of(alloc, "solve PORT JOB CERT")?;
-    for k in 1..5u64 {
-        let mut files = SteadyFiles::new(alloc);
-        files.put("PORT", A.as_bytes())?;
-        files.put(
-            "JOB",
-            br#"{"lots":10,"held":2,"weights":[[1,1]],"nodes":0}"#.as_slice(),
-        )?;
-        let mut sink = MemorySink::new(alloc, vec![in alloc; k]?);
-        let status = run(alloc, &words, &mut files, &mut sink);
-        assert_eq!(rt; status, 4, "write {k}");
-        let bytes = files.content("CERT").unwrap_or(b"".as_slice());
-        assert!(rt; bytes.len() < 191, "write {k}");
+fn a_failing_write_has_its_status_and_leaves_a_front(rt: HostRuntime) -> Result<(), Fail> {
+    // the words; the write that is to fail, at last none; the status, the lines printed, the length of the certificate
+    let rows = [
+        (QUICK, 1u64, 4u8, 0u32, 187usize),
+        (QUICK, 2, 4, 1, 187),
+        (QUICK, 3, 0, 2, 191),
+        (SOLVE, 1, 4, 0, 110),
+        (SOLVE, 2, 4, 1, 187),
+        (SOLVE, 3, 4, 2, 187),
+        (SOLVE, 4, 4, 3, 187),
+        (SOLVE, 5, 0, 4, 191),
+        (CHECK, 1, 4, 0, 191),
+        (CHECK, 2, 0, 2, 191),
+        (VERIFY, 1, 4, 0, 191),
+        (VERIFY, 2, 0, 2, 191),
+        (UPGRADE, 1, 4, 0, 187),
+        (UPGRADE, 2, 0, 2, 191),
+    ];
+    for ((line, name), write, due, lines, length) in rows {
+        let (status, files, sink) = failing(rt.alloc(), line, 0, write)?;
+        assert_eq!(rt; status, due, "{line}, write {write}");
+        assert_eq!(rt; lines_in(sink.bytes()), lines, "{line}, write {write}");
+        let bytes = files.content(name).unwrap_or(b"".as_slice());
+        assert_eq!(rt; bytes.len(), length, "{line}, write {write}");
+        assert!(rt; TWO.starts_with(bytes), "{line}, write {write}");
+    }
+    Ok(())
+}
+
+#[test]
+fn a_missing_file_is_a_read_fault(rt: HostRuntime) -> Result<(), Fail> {
+    let rows = [
+        "quick NONE 2 10 1 1 0",
+        "solve NONE JOB NEW",
+        "solve PORT NONE NEW",
+        "check NONE",
+        "verify NONE JOB CERT",
+        "verify PORT NONE CERT",
+        "verify PORT JOB NONE",
+        "upgrade NONE NEW",
+    ];
+    for line in rows {
+        let (status, files, sink) = failing(rt.alloc(), line, 0, 0)?;
+        assert_eq!(rt; status, 3, "{line}");
+        assert_eq!(rt; sink.bytes(), b"".as_slice(), "{line}");
+        assert!(rt; files.content("NEW").is_none(), "{line}");
     }
     Ok(())
 }

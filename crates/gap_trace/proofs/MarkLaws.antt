@@ -1,5 +1,5 @@
 -- Traces: what they put into the file and to the sink, joined and cut.
-use Rattle.std.proofs.Common.{◌≡◌, ℕ, ◌<◌, List, [], ◌∷◌, ◌++◌, length, append_assoc, append-nil, Some, refl, sym, ap, ◌∙◌, arith}
+use Rattle.std.proofs.Common.{◌≡◌, ℕ, ◌<◌, ◌≤◌, List, [], ◌∷◌, ◌++◌, length, length-append, append_assoc, append-nil, Some, refl, sym, ap, ◌∙◌, arith}
 use Rattle.gap_trace.specs.Marks.{Mark, to_file, to_sink, filed, printed, appends, prints, Streams, Did, DidFront, DidLess}
 
 -- both parts of a joined trace go into the file, one behind the other
@@ -146,3 +146,37 @@ less_behind old mid new a b first less = record {
   left = less.left;
   did = did_both old mid new a less.part first less.did;
 }
+
+-- what is appended of some bytes is something
+pub appends_some : (bytes : List ℕ) → 0 < length bytes → 0 < length (appends bytes)
+appends_some bytes some = let e = length-appends bytes in omega arith
+
+-- ---- the bytes for the file
+
+filed_most : (trace : List Mark) → length (filed trace) ≤ length trace
+filed_most [] = omega arith
+filed_most (to_file byte ∷ trace) = let h = filed_most trace in omega arith
+filed_most (to_sink byte ∷ trace) = let h = filed_most trace in omega arith
+
+tail_same : (m n : Mark) (a b : List Mark) → m ∷ a ≡ n ∷ b → a ≡ b
+tail_same m n a b same = cc
+
+-- what is left of a trace that ends in the file has bytes for the file
+pub last_filed : (a part rest : List Mark) (bytes : List ℕ) → 0 < length bytes → 0 < length rest → a ++ appends bytes ≡ part ++ rest → 0 < length (filed rest)
+last_filed a [] rest bytes some left split =
+    let e = ap (λ (x : List Mark). length (filed x)) split in
+    let l = ap length (filed-append a (appends bytes)) in
+    let m = length-append (filed a) (filed (appends bytes)) in
+    let n = ap length (filed-appends bytes) in
+    omega arith
+last_filed [] (mark ∷ part) rest bytes some left split =
+    let e = ap (λ (x : List Mark). length (filed x)) split in
+    let k = ap length split in
+    let l = ap length (filed-append (mark ∷ part) rest) in
+    let m = length-append (filed (mark ∷ part)) (filed rest) in
+    let n = ap length (filed-appends bytes) in
+    let o = length-appends bytes in
+    let p = filed_most (mark ∷ part) in
+    let q = length-append (mark ∷ part) rest in
+    omega arith
+last_filed (first ∷ a) (mark ∷ part) rest bytes some left split = last_filed a part rest bytes some left (tail_same first mark (a ++ appends bytes) (part ++ rest) split)

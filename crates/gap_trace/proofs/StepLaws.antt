@@ -1,8 +1,8 @@
 -- Steps of a run, one after the other.
-use Rattle.std.proofs.Common.{◌≡◌, ℕ, ◌≤◌, inl, inr, List, [], ◌++◌, append-nil, Result, Ok, Err, refl, sym, ◌∙◌, subst, arith}
+use Rattle.std.proofs.Common.{◌≡◌, ℕ, ◌<◌, ◌≤◌, inl, inr, List, [], ◌++◌, length, append-nil, Result, Ok, Err, IsErr, refl, sym, ◌∙◌, subst, arith}
 use Rattle.gap_files.specs.Outside.{FilesNow, SinkNow, Rose}
-use Rattle.gap_trace.specs.Marks.{Mark, Streams, streams, Did, DidFront}
-use Rattle.gap_trace.specs.Steps.{Does, HasCause, Keeps, Step}
+use Rattle.gap_trace.specs.Marks.{Mark, appends, Streams, streams, Did, DidFront, DidLess}
+use Rattle.gap_trace.specs.Steps.{Does, HasCause, Keeps, Step, Closes}
 use Rattle.gap_trace.specs.declared.halt.Halt.{Halt}
 use Rattle.gap_trace.specs.declared.halt.Halt.TheVariants.{WriteFault, OutOfMemory}
 use Rattle.gap_trace.proofs.MarkLaws.{did_none, did_both, front_of_did, front_of_more, front_behind}
@@ -92,3 +92,21 @@ pub step_front : (name : List ℕ) (f : FilesNow) (s : SinkNow) (g : FilesNow) (
     → Step name f s g t a r → DidFront (streams name f s) (streams name g t) a
 step_front name f s g t a (Ok value) step = record { part = a; rest = []; split = sym (append-nil a); did = step.does }
 step_front name f s g t a (Err halt) step = step.does
+
+-- ---- last steps
+
+-- memory was refused before anything was put out
+pub closes_refused : (name : List ℕ) (f : FilesNow) (s : SinkNow) (due : List Mark) → 0 < length due → Closes name f s f s due (Err OutOfMemory)
+closes_refused name f s due some = record {
+  step = gives_up_at_once name f s due;
+  less = λ err. record { part = []; rest = due; split = refl; left = some; did = did_none (streams name f s) };
+}
+
+-- all bytes that are due were appended, or it stopped
+pub closes_with : (name : List ℕ) (f g : FilesNow) (sink : SinkNow) (bytes due : List ℕ) (r : Result (Unit {0}) Halt) → bytes ≡ due → 0 < length due
+    → ((s : SinkNow) → Step name f s g s (appends bytes) r)
+    → (IsErr r → 0 < length bytes → (s : SinkNow) → DidLess (streams name f s) (streams name g s) (appends bytes))
+    → Closes name f sink g sink (appends due) r
+closes_with name f g sink bytes due r same due_some step less =
+    let some : 0 < length bytes = subst (λ (x : List ℕ). 0 < length x) (sym same) due_some in
+    subst (λ (x : List ℕ). Closes name f sink g sink (appends x) r) same (record { step = step sink; less = λ err. less err some sink })

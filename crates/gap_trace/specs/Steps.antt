@@ -1,8 +1,8 @@
 -- Steps of a run: what is put out, why a step stopped, and what stays. Own to portgap.
-use Rattle.std.specs.Prelude.{◌≡◌, ℕ, ◌≤◌, List, [], Some, Result, Ok, Err, ◌⊎◌}
+use Rattle.std.specs.Prelude.{◌≡◌, ℕ, ◌≤◌, List, [], Some, Result, Ok, Err, IsErr, ◌⊎◌}
 use Rattle.std.specs.Option.{ForSome}
 use Rattle.gap_files.specs.Outside.{FilesNow, SinkNow, Rose, NoneFell, SameElsewhere, SameEverywhere}
-use Rattle.gap_trace.specs.Marks.{Mark, Streams, streams, Did, DidFront}
+use Rattle.gap_trace.specs.Marks.{Mark, Streams, streams, Did, DidFront, DidLess}
 use Rattle.gap_trace.specs.declared.halt.Halt.{Halt}
 use Rattle.gap_trace.specs.declared.halt.Halt.TheVariants.{WriteFault, OutOfMemory}
 
@@ -33,6 +33,12 @@ pub record Step (name : List ℕ) (f : FilesNow) (s : SinkNow) (g : FilesNow) (t
   pub does : Does (streams name f s) (streams name g t) due result
   pub cause : HasCause name f s g t result
   pub keeps : Keeps name f s g t
+
+-- a last step: what is due was put out, or it stopped with a proper front of it
+pub record Closes (name : List ℕ) (f : FilesNow) (s : SinkNow) (g : FilesNow) (t : SinkNow) (due : List Mark)
+    (result : Result (Unit {0}) Halt) : Type 0 where
+  pub step : Step name f s g t due result
+  pub less : IsErr result → DidLess (streams name f s) (streams name g t) due
 
 -- a file wasn't started: it is as it was or empty, and nothing was printed
 pub record IsUnstarted (name : List ℕ) (f : FilesNow) (s : SinkNow) (g : FilesNow) (t : SinkNow) : Type 0 where

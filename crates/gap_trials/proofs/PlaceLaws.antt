@@ -7,9 +7,7 @@ use Rattle.std.proofs.lemmas.Bool.{cases_lt}
 use Rattle.std.proofs.lemmas.Bool.Decides.{nat_tests}
 use Rattle.gap_box.specs.declared.cell.Cell.{Cell}
 use Rattle.gap_box.specs.Parts.{in_part, IsPick, IsWithin}
-use Rattle.gap_model.specs.Leaves.{sixty_fourth}
 use Rattle.gap_model.specs.Theta.{picks, lesser, least_value}
-use Rattle.gap_model.proofs.LeafLaws.{sixty_fourth_reached, sixty_fourth_least}
 use Rattle.gap_model.proofs.ThetaLaws.{least_is, none_least}
 use Rattle.gap_trials.specs.Small.{small_whole, place_of, list_at, IsLeastBelow}
 
@@ -105,7 +103,3 @@ pub least_at_first : (f : List ℕ → ℤ) (cells : List Cell) → IsLeastBelow
 least_at_first f cells = λ x p l. absurd (none_below (place_of x) l) where
   none_below : (n : ℕ) → n < 0 → ⊥
   none_below n l = omega arith
-
--- the least number whose 64 times aren't below is the 64th part
-pub sixty_fourth_from : (v r : ℤ) → v ≤ℤ (pos 64 *ℤ r) → ((c : ℤ) → v ≤ℤ (pos 64 *ℤ c) → r ≤ℤ c) → r ≡ sixty_fourth v
-sixty_fourth_from v r a b = let p = sixty_fourth_least v r a in let q = b (sixty_fourth v) (sixty_fourth_reached v) in omega (arith, ints)

@@ -2,14 +2,13 @@
 
 ghost use Rattle.std.specs.Prelude.{◌≡◌, ℕ, ◌+◌, ◌<◌, ◌≤◌, true, length, sum, unsigned_abs, ◌≤ℤ◌};
 ghost use Rattle.gap_box.specs.Parts.{can_meet, IsWithin};
-ghost use Rattle.gap_model.specs.Leaves.{count_shows, void_shows, tangent_shows, sixty_fourth};
 ghost use Rattle.gap_model.specs.Theta.{picks, lesser, least_value};
 ghost use Rattle.gap_trials.specs.Small.{small_whole, small_meets, small_price, small_in_range, IsLeastBelow};
 
 use crate::pricing::{
     charge, cost, distance, held_of, is_in, is_pick, joined, list_at, lots_of, numbers,
 };
-use gap_base::{Lots, ceil_div64};
+use gap_base::Lots;
 use gap_box::Part;
 use gap_model::{Leaf, NodeBound, Shown};
 
@@ -93,44 +92,6 @@ fn least_price(small: &Small, part: &Part, leaf: &Leaf<'_>) -> Option<i128>
     least
 }
 
-/// What the count shows.
-fn counted(part: &Part) -> Shown
-    ensures { result ≡ count_shows (can_meet part.now 1 2) }
-{
-    if part.count_within(1, 2) {
-        Shown::Nothing
-    } else {
-        Shown::Empty
-    }
-}
-
-/// What a void leaf shows by its least price.
-fn void_of(least: Option<i128>) -> Shown
-    ensures { result ≡ void_shows least }
-{
-    match least {
-        None => Shown::Empty,
-        Some(t) => { if 0 < t { Shown::Empty } else { Shown::Nothing } }
-    }
-}
-
-/// The 64th part of a number, brought up to a whole number.
-fn bound_of(t: i128) -> i128
-    ensures { result ≡ sixty_fourth t }
-{
-    ceil_div64(t)
-}
-
-/// What a tangent shows by its least price.
-fn tangent_of(least: Option<i128>) -> Shown
-    ensures { result ≡ tangent_shows least }
-{
-    match least {
-        None => Shown::Empty,
-        Some(t) => Shown::AtLeast(bound_of(t)),
-    }
-}
-
 impl NodeBound for Small {
     ghost use Rattle.gap_trials.specs.Small.{small};
     ghost use Rattle.gap_trials.specs.SmallLaws.{small_lawful};
@@ -167,9 +128,9 @@ impl NodeBound for Small {
 
     fn shown(&self, part: &Part, leaf: &Leaf<'_>) -> Shown {
         match leaf {
-            Leaf::Count => counted(part),
-            Leaf::Void { .. } => void_of(least_price(self, part, leaf)),
-            Leaf::Tangent { .. } => tangent_of(least_price(self, part, leaf)),
+            Leaf::Count => Shown::of_count(part.count_within(1, 2)),
+            Leaf::Void { .. } => Shown::of_void(least_price(self, part, leaf)),
+            Leaf::Tangent { .. } => Shown::of_tangent(least_price(self, part, leaf)),
         }
     }
 }

@@ -31,10 +31,12 @@ use Rattle.gap_check.proofs.AcceptLaws.{faultless}
 use Rattle.gap_check.proofs.Complete.{Judges, WholeTells, whole_tells}
 use Rattle.gap_check.proofs.Follows.{Rest, follow, gives, gives_none}
 use Rattle.gap_check.proofs.HistoryLaws.{fault_stays}
-use Rattle.gap_writer.specs.Writing.{Written, last_of}
+use Rattle.gap_check.proofs.OnceLaws.{accepted_bytes, told_once}
+use Rattle.gap_writer.specs.Writing.{Written, last_of, end_bytes}
+use Rattle.gap_writer.proofs.ItemLaws.{spelled_behind}
 use Rattle.gap_upgrade.specs.Copies.{IsFront}
-use Rattle.gap_upgrade.specs.Copying.{is_end, unended, body_bytes, end_bytes, written, HasWritten, HasWrittenAll, IsAtFault, IsNoFront}
-use Rattle.gap_upgrade.proofs.ItemLaws.{unended-append, spelled_behind, field_of, tail_bytes}
+use Rattle.gap_upgrade.specs.Copying.{is_end, unended, body_bytes, written, HasWritten, HasWrittenAll, IsAtFault, IsNoFront}
+use Rattle.gap_upgrade.proofs.ItemLaws.{unended-append, field_of, tail_bytes}
 
 -- ---- the end mark comes last alone
 
@@ -188,23 +190,6 @@ fault_none fed f at = λ more v a.
     let r = rest_of at.scan fed more (fed ++ more) at.groups v refl at.scanned a in
     no_fault_by at.scan f more _ _ _ at.scanned.sound at.found a.encodes.over r r.rest refl
 
-spelled_bytes : (F : Format) (g : Group) (bytes : List ℕ) → Spells F g bytes → AreBytes bytes
-unfolding Spells
-spelled_bytes (natural w wrong least greatest next) g bytes h =
-    rw h.bytes_are (bytes_append (be w h.value) h.more (bytes_of_be w h.value h.fits) (spelled_bytes (next h.value) g h.more h.behind))
-spelled_bytes (signed w least greatest next) g bytes h =
-    rw h.bytes_are (bytes_append (be w (raw_of w h.value)) h.more (bytes_of_be w (raw_of w h.value) (raw_fits w h.value h.fits)) (spelled_bytes (next h.value) g h.more h.behind))
-spelled_bytes (guard test back wrong format) g bytes h = spelled_bytes format g bytes h.1
-spelled_bytes (says said) g bytes h = rw h.1 tt
-
-run_bytes : (groups : List Group) (c end : Context) (bytes : List ℕ) → Runs c groups end bytes → AreBytes bytes
-unfolding Runs
-run_bytes [] c end bytes h = rw h.1 tt
-run_bytes (g ∷ groups) c end bytes h = rw h.4 (bytes_append h.0 h.1 (spelled_bytes _ g h.0 h.2) (run_bytes groups (after c g) end h.1 h.3))
-
-accepted_bytes : (bytes : List ℕ) (v : VerdictValue) → Accepted bytes v → AreBytes bytes
-accepted_bytes bytes v a = run_bytes (map (group_in a.version) (fields_of a.certificate)) start a.encodes.end bytes a.encodes.run
-
 -- a checker found a fault
 pub refused_none : (state : State) (fed : List ℕ) (f : CertFault) → HasRead state fed → answer_of state ≡ Err (cert.Fault f) → IsNoFront fed
 refused_none (reading scan progress) fed f h e = cc
@@ -212,25 +197,6 @@ refused_none (stopped k) fed f h e = λ more v a. faultless (fed ++ more) k v (f
 refused_none no_memory fed f h e = cc
 
 -- ---- one certificate
-
-judged_once : (fields : List Field) (p q r : Progress) → Judges p fields q → Judges p fields r → q ≡ r
-unfolding Judges
-judged_once [] p q r h k = sym h ∙ k
-judged_once (f ∷ fields) p q r h k = judged_once fields (progress_behind p f) q r h.1 k.1
-
-abbrev verdict_at : Progress → VerdictValue
-verdict_at p = record { instance = instance_in p.head; nodes = p.head.nodes; sections = p.told }
-
-verdict_told : (c : Certificate) (t : WholeTells c) → verdict_at t.end ≡ verdict_of c
-verdict_told c t =
-    ap (λ (h : CertHead). record { instance = instance_in h; nodes = h.nodes; sections = t.end.told }) t.head_is
-    ∙ ap (λ (l : List Told). record { instance = instance_in c.head; nodes = c.head.nodes; sections = l }) t.told_is
-
-told_once : (c d : Certificate) (t : WholeTells c) (u : WholeTells d) → fields_of c ≡ fields_of d → verdict_of c ≡ verdict_of d
-told_once c d t u same =
-    sym (verdict_told c t)
-    ∙ ap verdict_at (judged_once (fields_of d) fresh_progress t.end u.end (subst (λ (fields : List Field). Judges fresh_progress fields t.end) same t.judges) u.judges)
-    ∙ verdict_told d u
 
 -- two certificates of the same bytes have the same bytes in version 2, and tell the same
 pub record AreSame (c d : Certificate) : Type 0 where

@@ -10,16 +10,16 @@ use Rattle.gap_files.specs.Outside.{FilesNow, SinkNow}
 use Rattle.gap_tell.specs.Telling.{verdict_report}
 use Rattle.gap_trace.specs.Drains.{Flows}
 use Rattle.gap_trace.specs.Marks.{Mark, appends, prints, streams, DidLess}
-use Rattle.gap_trace.specs.Steps.{Step}
+use Rattle.gap_trace.specs.Steps.{Step, Closes}
 use Rattle.gap_trace.specs.declared.halt.Halt.{Halt}
 use Rattle.gap_trace.specs.declared.halt.Halt.TheVariants.{OutOfMemory}
 use Rattle.gap_trace.proofs.DrainLaws.{flows_end}
-use Rattle.gap_trace.proofs.MarkLaws.{appends-append, appends-none, did_none, length-appends, less_of_front, less_behind}
-use Rattle.gap_trace.proofs.StepLaws.{gives_up_at_once, step_same, step_none, stops_early, then_step}
+use Rattle.gap_trace.proofs.MarkLaws.{appends-append, appends-none, did_none, length-appends, less_of_front, less_behind, appends_some}
+use Rattle.gap_trace.proofs.StepLaws.{gives_up_at_once, step_same, step_none, stops_early, then_step, closes_refused}
 use Rattle.gap_valid.specs.Verdicts.{VerdictValue}
-use Rattle.gap_writer.specs.Writing.{Written, blank, put}
-use Rattle.gap_upgrade.specs.Copying.{end_bytes}
-use Rattle.gap_upgrade.specs.Upgrading.{Closes, closing_trace}
+use Rattle.gap_writer.specs.Writing.{Written, blank, put, end_bytes}
+use Rattle.gap_writer.proofs.ItemLaws.{end_some}
+use Rattle.gap_upgrade.specs.Upgrading.{closing_trace}
 
 -- ---- pieces
 
@@ -47,12 +47,8 @@ all_gone name f g sink all left none flows =
 
 -- ---- the end mark
 
-pub end_some : 0 < length end_bytes
-unfolding end_bytes spelled
-end_some = let l = length-append (be 4 end_mark) [] in let m = length-be 4 end_mark in omega arith
-
 end_marks : 0 < length (appends end_bytes)
-end_marks = let e = length-appends end_bytes in let h = end_some in omega arith
+end_marks = appends_some end_bytes end_some
 
 pub closing_some : (v : VerdictValue) → 0 < length (closing_trace v)
 unfolding closing_trace
@@ -61,31 +57,6 @@ closing_some v = behind_some (prints (verdict_report v)) (appends end_bytes) end
     behind_some : (a b : List Mark) → 0 < length b → 0 < length (a ++ b)
     behind_some [] b some = some
     behind_some (m ∷ a) b some = omega arith
-
--- memory was refused before anything was put out
-pub closes_refused : (name : List ℕ) (f : FilesNow) (s : SinkNow) (due : List Mark) → 0 < length due → Closes name f s f s due (Err OutOfMemory)
-closes_refused name f s due some = record {
-  step = gives_up_at_once name f s due;
-  less = λ err. record { part = []; rest = due; split = refl; left = some; did = did_none (streams name f s) };
-}
-
-pub end_refused : (name : List ℕ) (f : FilesNow) (s : SinkNow) → Closes name f s f s (appends end_bytes) (Err OutOfMemory)
-end_refused name f s = closes_refused name f s (appends end_bytes) end_marks
-
--- what a writer has behind the end mark
-pub end_written : (w v : Written) (bytes : List ℕ) → w ≡ blank → v ≡ put w field.End → bytes ≡ v.bytes → bytes ≡ end_bytes
-unfolding end_bytes spelled
-end_written w v bytes start is read =
-    read ∙ ap (λ (x : Written). x.bytes) is ∙ ap (λ (x : Written). (put x field.End).bytes) start ∙ sym (append-nil (be 4 end_mark))
-
--- the end mark was appended, or it stopped
-pub closes_end : (name : List ℕ) (f g : FilesNow) (sink : SinkNow) (bytes : List ℕ) (r : Result (Unit {0}) Halt) → bytes ≡ end_bytes
-    → ((s : SinkNow) → Step name f s g s (appends bytes) r)
-    → (IsErr r → 0 < length bytes → (s : SinkNow) → DidLess (streams name f s) (streams name g s) (appends bytes))
-    → Closes name f sink g sink (appends end_bytes) r
-closes_end name f g sink bytes r same step less =
-    let some : 0 < length bytes = subst (λ (x : List ℕ). 0 < length x) (sym same) end_some in
-    subst (λ (x : List ℕ). Closes name f sink g sink (appends x) r) same (record { step = step sink; less = λ err. less err some sink })
 
 -- ---- the closing
 

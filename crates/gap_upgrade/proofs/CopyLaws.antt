@@ -6,6 +6,7 @@ use Rattle.std.specs.Option.{option_map, ForSome}
 use Rattle.gap_check.specs.Accepting.{Accepted}
 use Rattle.gap_check.specs.States.{State}
 use Rattle.gap_files.specs.Outside.{FilesNow, SinkNow, Rose, ReadsAt, SameElsewhere, SameEverywhere, NoneFell, bytes_of}
+use Rattle.gap_files.proofs.FrontLaws.{front_more, inside_more}
 use Rattle.gap_model.specs.declared.cert_fault.CertFault.{CertFault}
 use Rattle.gap_scan.specs.Scans.{Scan}
 use Rattle.gap_trace.specs.Marks.{Mark, appends, streams, Did, DidFront}
@@ -192,17 +193,6 @@ pub put_fact : (r : Result (Unit {0}) Halt) (P : Type 0) (u : Unit {0}) → ◌�
 put_fact r P u e h = subst (λ (x : Result (Unit {0}) Halt). OnOk x P) (put_ok r u e) h
 
 -- ---- pieces of the file
-
-front_more : (held buffer : List ℕ) (at count : ℕ) → take count buffer ≡ take count (drop at held) → take (at + count) held ≡ take at held ++ take count buffer
-front_more held buffer at count same = take-add at count held ∙ ap (λ (x : List ℕ). take at held ++ x) (sym same)
-
-inside_more : (held buffer : List ℕ) (at count : ℕ) → count ≤ length buffer → at ≤ length held → take count buffer ≡ take count (drop at held) → at + count ≤ length held
-inside_more held buffer at count room inside same =
-    let left = length-take count buffer in
-    let right = length-take count (drop at held) in
-    let rest = length-drop at held in
-    let lengths = ap length same in
-    omega arith
 
 -- bytes are the first of a content, so many
 pub record IsFed (fed : List ℕ) (at : ℕ) (held : List ℕ) : Type 0 where

@@ -16,7 +16,9 @@ use Rattle.gap_scan.proofs.ScanLaws.{bytes_append}
 use Rattle.gap_scan.proofs.ScannedLaws.{scanned_more}
 use Rattle.gap_check.proofs.NextLaws.{none_stands}
 use Rattle.gap_check.proofs.CheckerLaws.{fresh_read}
+use Rattle.gap_check.proofs.HistoryLaws.{scanned_longer}
 use Rattle.gap_writer.specs.Writing.{Written, blank, put, put_all, last_of}
+use Rattle.gap_writer.proofs.ItemLaws.{spelled_behind}
 use Rattle.gap_upgrade.specs.Copying.{is_end, unended, put_unended, written, HasWritten, HasWrittenAll, IsAtFault}
 
 -- ---- items without end marks
@@ -30,11 +32,6 @@ unended-append [] b = refl
 unended-append (f ∷ a) b = unended_step (is_end f) f (unended (a ++ b)) (unended a) (unended b) (unended-append a b)
 
 -- ---- items behind items
-
-pub spelled_behind : (last : Option Witness) (a b : List Field) → spelled Two last (a ++ b) ≡ spelled Two last a ++ spelled Two (last_of last a) b
-unfolding spelled
-spelled_behind last [] b = refl
-spelled_behind last (f ∷ a) b = ap (λ (x : List ℕ). bytes_of Two last f ++ x) (spelled_behind (last_behind last f) a b) ∙ sym (append_assoc (bytes_of Two last f) (spelled Two (last_behind last f) a) (spelled Two (last_of (last_behind last f) a) b))
 
 last_of_behind : (last : Option Witness) (a b : List Field) → last_of last (a ++ b) ≡ last_of (last_of last a) b
 last_of_behind last [] b = refl
@@ -110,15 +107,6 @@ written_all s new w fed gone stands none h =
 -- a number is at fault
 pub at_fault : (s : Scan) (w : Written) (fed gone : List ℕ) (f : CertFault) → (next_of s).answer ≡ Err f → HasWritten s w fed gone → IsAtFault fed f
 at_fault s w fed gone f e h = record { bytes_are = h.bytes_are; scan = s; groups = h.groups; scanned = h.scanned; found = e }
-
-scanned_longer : (fed more : List ℕ) (s : Scan) (groups : List Group) → HasScanned s fed groups → HasScanned (fed_more s more) (fed ++ more) groups
-scanned_longer fed more s groups h = record {
-  bytes = h.bytes;
-  run = h.run;
-  fed_is = ap (λ (l : List ℕ). l ++ more) h.fed_is ∙ append_assoc h.bytes s.rest more;
-  place_is = h.place_is;
-  sound = h.sound;
-}
 
 -- more bytes are fed
 pub written_fed : (s new : Scan) (w : Written) (fed gone more : List ℕ) → AreBytes more → new ≡ fed_more s more → HasWritten s w fed gone → HasWritten new w (fed ++ more) gone

@@ -8,20 +8,22 @@ use Rattle.gap_cert.specs.Certificates.{Certificate, spelling}
 use Rattle.gap_check.specs.Accepting.{Accepted}
 use Rattle.gap_files.specs.Outside.{FilesNow, SinkNow, Rose, bytes_of}
 use Rattle.gap_trace.specs.Marks.{Mark, to_file, to_sink, appends, prints, filed, Streams, stream, streams, started, Did, DidFront, DidLess}
-use Rattle.gap_trace.specs.Steps.{IsUnstarted, Opens, HasCause}
+use Rattle.gap_trace.specs.Steps.{IsUnstarted, Opens, HasCause, Closes}
 use Rattle.gap_trace.specs.declared.halt.Halt.{Halt}
 use Rattle.gap_trace.specs.declared.halt.Halt.TheVariants as halt
-use Rattle.gap_trace.proofs.MarkLaws.{did_both, appends-append, filed-append, filed-appends, filed-prints, front_of_more, length-appends, less_of_front, less_behind}
+use Rattle.gap_writer.specs.Writing.{end_bytes}
+use Rattle.gap_writer.proofs.ItemLaws.{end_some}
+use Rattle.gap_trace.proofs.MarkLaws.{did_both, appends-append, filed-append, filed-appends, filed-prints, front_of_more, length-appends, less_of_front, less_behind, last_filed}
 use Rattle.gap_valid.specs.Verdicts.{VerdictValue, verdict_of}
 use Rattle.gap_tell.specs.Telling.{verdict_report}
-use Rattle.gap_upgrade.specs.Copying.{body_bytes, end_bytes}
+use Rattle.gap_upgrade.specs.Copying.{body_bytes}
 use Rattle.gap_upgrade.specs.Copies.{IfTold, KeepsFiles, CopyCause, IsFront, Copied, CopyStopped}
 use Rattle.gap_upgrade.specs.Stops.{stopped_by, IsUnrefused}
-use Rattle.gap_upgrade.specs.Upgrading.{closing_trace, upgrade_trace, Closes, Leaves, unstarted, stopped, UpgradeCause, Upgrades, HoldsUpgrade, HoldsFront}
+use Rattle.gap_upgrade.specs.Upgrading.{closing_trace, upgrade_trace, Leaves, unstarted, stopped, UpgradeCause, Upgrades, HoldsUpgrade, HoldsFront}
 use Rattle.gap_upgrade.specs.declared.stop.Stop.{Stop}
 use Rattle.gap_upgrade.specs.declared.stop.Stop.TheVariants.{Refused, ReadFault, WriteFault, OutOfMemory}
 use Rattle.gap_upgrade.proofs.BodyLaws.{spelling_is, AreSame, same_certificate}
-use Rattle.gap_upgrade.proofs.CloseLaws.{end_some, closing_some}
+use Rattle.gap_upgrade.proofs.CloseLaws.{closing_some}
 use Rattle.gap_upgrade.proofs.CopyLaws.{keeps_of, keeps_on, cause_on, put_ok, put_err}
 
 -- ---- behind the start of the new file
@@ -189,34 +191,6 @@ holds_all cert new f s g t u apart = λ was started content told v accepted.
     file_is new f s (streams new g t) (upgrade_trace e.accepted.certificate) was started e.did
     ∙ ap Some (filed_upgrade e.accepted.certificate ∙ ap (λ (x : List ℕ). x ++ end_bytes) same.body
     ∙ sym (spelling_is accepted.version (bytes_of content) accepted.certificate accepted.encodes))
-
-filed_most : (trace : List Mark) → length (filed trace) ≤ length trace
-filed_most [] = omega arith
-filed_most (to_file byte ∷ trace) = let h = filed_most trace in omega arith
-filed_most (to_sink byte ∷ trace) = let h = filed_most trace in omega arith
-
-tail_same : (m n : Mark) (a b : List Mark) → m ∷ a ≡ n ∷ b → a ≡ b
-tail_same m n a b same = cc
-
--- what is left of a trace that ends in the file has bytes for the file
-last_filed : (a part rest : List Mark) (bytes : List ℕ) → 0 < length bytes → 0 < length rest → a ++ appends bytes ≡ part ++ rest → 0 < length (filed rest)
-last_filed a [] rest bytes some left split =
-    let e = ap (λ (x : List Mark). length (filed x)) split in
-    let l = ap length (filed-append a (appends bytes)) in
-    let m = length-append (filed a) (filed (appends bytes)) in
-    let n = ap length (filed-appends bytes) in
-    omega arith
-last_filed [] (mark ∷ part) rest bytes some left split =
-    let e = ap (λ (x : List Mark). length (filed x)) split in
-    let k = ap length split in
-    let l = ap length (filed-append (mark ∷ part) rest) in
-    let m = length-append (filed (mark ∷ part)) (filed rest) in
-    let n = ap length (filed-appends bytes) in
-    let o = length-appends bytes in
-    let p = filed_most (mark ∷ part) in
-    let q = length-append (mark ∷ part) rest in
-    omega arith
-last_filed (first ∷ a) (mark ∷ part) rest bytes some left split = last_filed a part rest bytes some left (tail_same first mark (a ++ appends bytes) (part ++ rest) split)
 
 trace_ends : (c : Certificate) → upgrade_trace c ≡ (appends (body_bytes c) ++ prints (verdict_report (verdict_of c))) ++ appends end_bytes
 unfolding upgrade_trace closing_trace

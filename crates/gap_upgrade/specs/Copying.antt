@@ -25,12 +25,9 @@ abbrev pub unended : List Field → List Field
 unended [] = []
 unended (f ∷ fields) = if is_end f then unended fields else f ∷ unended fields
 
--- the bytes of a certificate in version 2 but for the end mark, and those of the end mark
+-- the bytes of a certificate in version 2 but for the end mark
 unfoldable pub body_bytes : Certificate → List ℕ
 body_bytes c = spelled Two None (unended (fields_of c))
-
-unfoldable pub end_bytes : List ℕ
-end_bytes = spelled Two None (field.End ∷ [])
 
 -- behind an item, where an end mark isn't written
 abbrev pub put_unended : Written → Field → Written

@@ -8,8 +8,9 @@ use Rattle.gap_tell.specs.Telling.{verdict_report}
 use Rattle.gap_trace.specs.Marks.{Mark, appends, prints, streams, started, Did, DidLess}
 use Rattle.gap_trace.specs.Steps.{Step, IsUnstarted}
 use Rattle.gap_trace.specs.declared.halt.Halt.{Halt}
+use Rattle.gap_writer.specs.Writing.{end_bytes}
 use Rattle.gap_valid.specs.Verdicts.{VerdictValue, verdict_of}
-use Rattle.gap_upgrade.specs.Copying.{body_bytes, end_bytes}
+use Rattle.gap_upgrade.specs.Copying.{body_bytes}
 use Rattle.gap_upgrade.specs.Copies.{IfTold, KeepsFiles}
 use Rattle.gap_upgrade.specs.Stops.{IsUnrefused}
 use Rattle.gap_upgrade.specs.declared.stop.Stop.{Stop}
@@ -22,12 +23,6 @@ closing_trace v = prints (verdict_report v) ++ appends end_bytes
 -- what is put out for a certificate: all but its end mark into the new file, and then the closing
 unfoldable pub upgrade_trace : Certificate → List Mark
 upgrade_trace c = appends (body_bytes c) ++ closing_trace (verdict_of c)
-
--- a last step: what is due was put out, or it stopped with a proper front of it
-pub record Closes (name : List ℕ) (f : FilesNow) (s : SinkNow) (g : FilesNow) (t : SinkNow) (due : List Mark)
-    (result : Result (Unit {0}) Halt) : Type 0 where
-  pub step : Step name f s g t due result
-  pub less : IsErr result → DidLess (streams name f s) (streams name g t) due
 
 -- an upgrade did all, from the files f and the sink s to g and t: the bytes that it read are accepted, they are those of the
 -- file where that is told, and what is due for their certificate was put out behind the start of the new file

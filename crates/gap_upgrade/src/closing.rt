@@ -2,8 +2,9 @@
 ghost use Rattle.std.specs.Prelude.{◌≡◌};
 ghost use Rattle.gap_files.specs.Outside.{SinkNow};
 ghost use Rattle.gap_trace.specs.Marks.{appends};
-ghost use Rattle.gap_upgrade.specs.Copying.{end_bytes};
-ghost use Rattle.gap_upgrade.specs.Upgrading.{Closes, closing_trace};
+ghost use Rattle.gap_trace.specs.Steps.{Closes};
+ghost use Rattle.gap_writer.specs.Writing.{end_bytes};
+ghost use Rattle.gap_upgrade.specs.Upgrading.{closing_trace};
 
 use gap_check::Verdict;
 use gap_files::{Files, Sink};

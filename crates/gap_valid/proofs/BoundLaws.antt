@@ -22,7 +22,8 @@ use Rattle.gap_valid.specs.CertTrees.{cert_splits, PlacedLeaf, cert_leaves, plac
 use Rattle.gap_valid.specs.Valid.{IsWeight, IsRightLeaf, IsClosed, IsClaimRight, is_open, IsValidSection, IsValid}
 use Rattle.gap_valid.specs.Verdicts.{outcome_in, told_in, verdict_of}
 use Rattle.gap_valid.proofs.HeadLaws.{instance_is, shift_is, root_is}
-use Rattle.gap_valid.proofs.ShownLaws.{le_trans, le_both, greater_most}
+use Rattle.gap_model.proofs.OrderLaws.{shown_le_trans}
+use Rattle.gap_valid.proofs.ShownLaws.{le_both, greater_most}
 use Rattle.gap_valid.proofs.TreeLaws.{leaf_below, least_below}
 
 same_assets : (h : CertHead) → (instance_in h).market.assets ≡ (shift_in h).assets
@@ -48,7 +49,7 @@ bound_right_for h s overall x is set v o m = greater_most _ _ _ (overall_right_f
 
 -- a number that is shown is no more than the objective of any list that meets the limits
 lower_bound : (h : CertHead) (s : CertSection) (overall : Option Witness) (v : ℤ) → IsHead h → IsSetting (setting_in h s.weight) → IsValidSection h s → ForSome overall (IsWitness (instance_in h)) → ShownLe (AtLeast v) (shown_bound (setting_in h s.weight) (root_in h) overall s.tree) → IsLowerBound (instance_in h) s.weight.p s.weight.q v
-lower_bound h s overall v is set valid o shown x m = le_trans (AtLeast v) (shown_bound (setting_in h s.weight) (root_in h) overall s.tree) (AtLeast (objective (instance_in h) s.weight.p s.weight.q x)) shown (bound_right_for h s overall x is set valid o m)
+lower_bound h s overall v is set valid o shown x m = shown_le_trans (AtLeast v) (shown_bound (setting_in h s.weight) (root_in h) overall s.tree) (AtLeast (objective (instance_in h) s.weight.p s.weight.q x)) shown (bound_right_for h s overall x is set valid o m)
 
 -- ---- where no leaf has a tangent point each of them shows Empty, so no list meets the limits
 all_empty : (s : Setting) (leaves : List PlacedLeaf) → All (IsRightLeaf s) leaves → All (λ placed. has_point placed.leaf ≡ false) leaves → least_shown (map (placed_shows s) leaves) ≡ Empty

@@ -7,6 +7,7 @@ use Rattle.std.proofs.lemmas.List.Elements.{All-nil, All-cons, All-contains, All
 use Rattle.gap_model.specs.declared.shown.Shown.{Shown}
 use Rattle.gap_model.specs.declared.shown.Shown.TheVariants.{Nothing, AtLeast, Empty}
 use Rattle.gap_model.specs.Order.{ShownLe}
+use Rattle.gap_model.proofs.OrderLaws.{shown_le_trans}
 use Rattle.gap_valid.specs.CertTrees.{lesser_shown, greater_shown, least_shown, IsLeastShown}
 
 pub le_same : (a : Shown) → ShownLe a a
@@ -18,19 +19,6 @@ pub le_empty : (a : Shown) → ShownLe a Empty
 le_empty Nothing = tt
 le_empty (AtLeast a) = tt
 le_empty Empty = tt
-
-pub le_trans : (a b c : Shown) → ShownLe a b → ShownLe b c → ShownLe a c
-le_trans Nothing b c p q = tt
-le_trans (AtLeast x) Nothing c p q = absurd p
-le_trans (AtLeast x) (AtLeast y) Nothing p q = absurd q
-le_trans (AtLeast x) (AtLeast y) (AtLeast z) p q = omega (arith, ints)
-le_trans (AtLeast x) (AtLeast y) Empty p q = tt
-le_trans (AtLeast x) Empty Nothing p q = absurd q
-le_trans (AtLeast x) Empty (AtLeast z) p q = absurd q
-le_trans (AtLeast x) Empty Empty p q = tt
-le_trans Empty Nothing c p q = absurd p
-le_trans Empty (AtLeast y) c p q = absurd p
-le_trans Empty Empty c p q = q
 
 -- of two that are each no less than the other, both are one
 pub le_both : (a b : Shown) → ShownLe a b → ShownLe b a → a ≡ b
@@ -101,18 +89,18 @@ pub least_left : (xs ys : List Shown) → ShownLe (least_shown (xs ++ ys)) (leas
 least_left [] ys = le_empty (least_shown ys)
 least_left (a ∷ xs) ys =
     lesser_most a (least_shown xs) (lesser_shown a (least_shown (xs ++ ys))) (lesser_left a (least_shown (xs ++ ys)))
-    (le_trans (lesser_shown a (least_shown (xs ++ ys))) (least_shown (xs ++ ys)) (least_shown xs) (lesser_right a (least_shown (xs ++ ys))) (least_left xs ys))
+    (shown_le_trans (lesser_shown a (least_shown (xs ++ ys))) (least_shown (xs ++ ys)) (least_shown xs) (lesser_right a (least_shown (xs ++ ys))) (least_left xs ys))
 
 pub least_right : (xs ys : List Shown) → ShownLe (least_shown (xs ++ ys)) (least_shown ys)
 least_right [] ys = le_same (least_shown ys)
-least_right (a ∷ xs) ys = le_trans (lesser_shown a (least_shown (xs ++ ys))) (least_shown (xs ++ ys)) (least_shown ys) (lesser_right a (least_shown (xs ++ ys))) (least_right xs ys)
+least_right (a ∷ xs) ys = shown_le_trans (lesser_shown a (least_shown (xs ++ ys))) (least_shown (xs ++ ys)) (least_shown ys) (lesser_right a (least_shown (xs ++ ys))) (least_right xs ys)
 
 -- none of a list is below the least
 least_below : (shown : List Shown) → All (ShownLe (least_shown shown)) shown
 least_below [] = All-nil (ShownLe Empty)
 least_below (a ∷ shown) =
     All-cons (ShownLe (lesser_shown a (least_shown shown))) a shown (lesser_left a (least_shown shown))
-    (All-weaker (ShownLe (least_shown shown)) (ShownLe (lesser_shown a (least_shown shown))) (λ b p. le_trans (lesser_shown a (least_shown shown)) (least_shown shown) b (lesser_right a (least_shown shown)) p) shown (least_below shown))
+    (All-weaker (ShownLe (least_shown shown)) (ShownLe (lesser_shown a (least_shown shown))) (λ b p. shown_le_trans (lesser_shown a (least_shown shown)) (least_shown shown) b (lesser_right a (least_shown shown)) p) shown (least_below shown))
 
 -- the least is in the list
 pub contains_first : {X : Type 0} (a : X) (xs : List X) → Contains (a ∷ xs) a

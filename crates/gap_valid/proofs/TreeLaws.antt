@@ -30,7 +30,8 @@ use Rattle.gap_model.proofs.LeafLaws.{sixty_fourth_least}
 use Rattle.gap_model.proofs.ThetaLaws.{theta_least, void_theta_least, theta_none_iff, void_theta_none_iff, theta_from_same}
 use Rattle.gap_cert.specs.Certificates.{CertLeaf, count, void, tangent, CertTree, tip, fork}
 use Rattle.gap_valid.specs.CertTrees.{IsFormed, PlacedLeaf, cert_leaves, leaf_shows, placed_shows, least_shown, IsLeafIn, IsSameLeaf}
-use Rattle.gap_valid.proofs.ShownLaws.{le_trans, lesser_left, least_left, least_right, contains_first}
+use Rattle.gap_model.proofs.OrderLaws.{shown_le_trans}
+use Rattle.gap_valid.proofs.ShownLaws.{lesser_left, least_left, least_right, contains_first}
 
 -- ---- each list is in the part of exactly one leaf
 pub covered : (part : List Cell) (tree : CertTree) (x : List ℕ) → AreCells part → IsFormed part tree → sum_by (λ (placed : PlacedLeaf). indicator (in_part placed.part x)) (cert_leaves part tree) ≡ indicator (in_part part x)
@@ -96,12 +97,12 @@ one_side false false false e h = cc
 
 -- the least of two lists is no more than a bound of the least of one of them
 least_of_sides : {P Q : Type 0} (firsts seconds : List Shown) (bound : Shown) → P ⊎ Q → (P → ShownLe (least_shown firsts) bound) → (Q → ShownLe (least_shown seconds) bound) → ShownLe (least_shown (firsts ++ seconds)) bound
-least_of_sides firsts seconds bound (inl p) f g = le_trans (least_shown (firsts ++ seconds)) (least_shown firsts) bound (least_left firsts seconds) (f p)
-least_of_sides firsts seconds bound (inr q) f g = le_trans (least_shown (firsts ++ seconds)) (least_shown seconds) bound (least_right firsts seconds) (g q)
+least_of_sides firsts seconds bound (inl p) f g = shown_le_trans (least_shown (firsts ++ seconds)) (least_shown firsts) bound (least_left firsts seconds) (f p)
+least_of_sides firsts seconds bound (inr q) f g = shown_le_trans (least_shown (firsts ++ seconds)) (least_shown seconds) bound (least_right firsts seconds) (g q)
 
 pub least_below : (s : Setting) (part : List Cell) (tree : CertTree) (x : List ℕ) → IsSetting s → AreCells part → MeetsLimits s.instance x → IsTrue (in_part part x) → IsFormed part tree → ((placed : PlacedLeaf) → Contains (cert_leaves part tree) placed → IsLeafIn s.instance placed.leaf) → ShownLe (least_shown (map (placed_shows s) (cert_leaves part tree))) (AtLeast (objective s.instance s.p s.q x))
 least_below s part (tip leaf) x is cells m i f l =
-    le_trans (least_shown (leaf_shows s part leaf ∷ [])) (leaf_shows s part leaf) (AtLeast (objective s.instance s.p s.q x)) (lesser_left (leaf_shows s part leaf) Empty)
+    shown_le_trans (least_shown (leaf_shows s part leaf ∷ [])) (leaf_shows s part leaf) (AtLeast (objective s.instance s.p s.q x)) (lesser_left (leaf_shows s part leaf) Empty)
     (leaf_below s part leaf x is cells m i (l (record { part = part; leaf = leaf }) (contains_first (record { part = part; leaf = leaf }) [])))
 least_below s part (fork split first second) x is cells m i f l =
     rw (map-append (placed_shows s) (cert_leaves (child_cells part split First) first) (cert_leaves (child_cells part split Second) second))

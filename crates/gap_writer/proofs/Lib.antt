@@ -1,3 +1,4 @@
 pub mod Spelled
 pub mod Entries
 pub mod Headed
+pub mod ItemLaws

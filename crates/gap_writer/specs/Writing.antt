@@ -4,6 +4,7 @@ use Rattle.std.specs.Prelude.{ℕ, List, [], ◌∷◌, ◌++◌, Option, None}
 use Rattle.gap_base.specs.declared.witness.Witness.{Witness}
 use Rattle.gap_cert.specs.declared.field.Version.TheVariants.{Two}
 use Rattle.gap_cert.specs.declared.field.Field.{Field}
+use Rattle.gap_cert.specs.declared.field.Field.TheVariants as field
 use Rattle.gap_cert.specs.Fields.{bytes_of}
 use Rattle.gap_cert.specs.Certificates.{last_behind, spelled}
 
@@ -28,3 +29,7 @@ last_of last (field ∷ fields) = last_of (last_behind last field) fields
 -- behind items: their bytes in version 2, one behind another, come behind those that are there
 abbrev pub put_all : Written → List Field → Written
 put_all w fields = record { bytes = w.bytes ++ spelled Two w.last fields; last = last_of w.last fields }
+
+-- the bytes of the end mark
+unfoldable pub end_bytes : List ℕ
+end_bytes = spelled Two None (field.End ∷ [])

@@ -13,4 +13,4 @@ pub tangent_shown-shown-requires-clause-sound : goal.tangent_shown-shown-require
 tangent_shown-shown-requires-clause-sound c = sound_for c.args.head.now c.args.basis.now.instance c.args.basis.now.shift c.args.basis.now.root c.args.course.now.weight c.requires.basis c.requires.due.node.begun.weight_is
 
 pub pass-requires-clause-shows : goal.pass-requires-clause-shows
-pass-requires-clause-shows c = tangent_shown_some c.args.basis.now.instance c.args.basis.now.shift c.args.course.now.weight c.next_part.result.now c.args.w.now c.tangent_shown-shown.result c.tangent_shown-shown.ensures
+pass-requires-clause-shows c = tangent_shown_some c.args.basis.now.instance c.args.basis.now.shift c.args.course.now.weight c.next_part.result.now c.args.w.now c.tangent_shown-shown.result c.tangent_shown-shown.ensures.shown

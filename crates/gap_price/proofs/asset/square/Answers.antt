@@ -1,4 +1,4 @@
-use Rattle.std.proofs.Common.{◌≡◌, ◌*◌, ℕ, pos, ◌*ℤ◌, unsigned_abs, FitsSigned, lit<, ◌∙◌, ap, sym, arith}
+use Rattle.std.proofs.Common.{◌≡◌, ◌*◌, pos, ◌*ℤ◌, lit<, ◌∙◌, ap, arith}
 use Rattle.std.proofs.lemmas.Int.{ints}
 use Rattle.gap_base.proofs.Machine.{mul_is, mul_le, fits_of}
 use Rattle.gap_price.proofs.asset.square.Goals as goal

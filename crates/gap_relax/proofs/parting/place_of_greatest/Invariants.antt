@@ -1,4 +1,4 @@
-use Rattle.std.proofs.Common.{◌≡◌, ◌<◌, ◌≤ℤ◌, ℕ}
+use Rattle.std.proofs.Common.{◌<◌, ◌≤ℤ◌, ℕ}
 use Rattle.gap_base.specs.Sums.{at}
 use Rattle.gap_relax.proofs.parting.place_of_greatest.Given as goal
 

@@ -1,4 +1,4 @@
-use Rattle.std.proofs.Common.{◌≡◌, length, arith}
+use Rattle.std.proofs.Common.{arith}
 use Rattle.std.proofs.lemmas.Int.{to_z-of_z}
 use Rattle.gap_price.specs.CurveOf.{curve_of}
 use Rattle.gap_price.proofs.OfferLaws.{held_within, out_within, held_flat, out_flat, least_tabled, least_sizes}
