@@ -13,6 +13,3 @@ pub use laws::count_is_met;
 pub use node::NodeId;
 pub use part::Part;
 pub use split::{Side, Split};
-
-#[cfg(test)]
-mod tests;

@@ -7,6 +7,3 @@ mod reading;
 
 pub use checker::Checker;
 pub use gap_judge::{CertStop, Verdict};
-
-#[cfg(test)]
-mod tests;

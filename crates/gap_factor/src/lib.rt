@@ -8,6 +8,3 @@ mod diagonal;
 mod plain;
 
 pub use choice::factor;
-
-#[cfg(test)]
-mod tests;

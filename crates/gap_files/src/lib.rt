@@ -24,6 +24,3 @@ pub use steady_files::SteadyFiles;
 pub use steady_sink::SteadySink;
 pub use tally::Tally;
 pub use trouble::Trouble;
-
-#[cfg(test)]
-mod tests;

@@ -6,6 +6,3 @@ mod demo;
 mod ties;
 
 pub use demo::demo_market;
-
-#[cfg(test)]
-mod tests;

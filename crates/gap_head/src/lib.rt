@@ -3,8 +3,6 @@
 
 mod laws;
 mod said;
-#[cfg(test)]
-mod tests;
 
 pub use laws::{
     heads_say_each_asset, heads_say_instances, said_instances_are_the_same,

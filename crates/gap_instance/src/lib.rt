@@ -6,8 +6,6 @@ mod covariances;
 mod instance;
 mod keeps;
 mod order;
-#[cfg(test)]
-mod tests;
 
 pub use instance::Instance;
 pub use keeps::{Broken, total_of};

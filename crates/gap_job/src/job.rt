@@ -144,6 +144,3 @@ pub fn read_job(alloc: Global, bytes: &[u8], n: u16) -> Result<Job, JobStop>
     let job = job_of_value(&value, n)?;
     Ok(job)
 }
-
-#[cfg(test)]
-mod tests;

@@ -16,6 +16,3 @@ mod search;
 pub use curve::Curve;
 pub use line::Line;
 pub use search::best_place;
-
-#[cfg(test)]
-mod tests;

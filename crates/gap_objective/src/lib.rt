@@ -4,8 +4,6 @@
 
 mod holding;
 mod terms;
-#[cfg(test)]
-mod tests;
 mod totals;
 
 pub use holding::Holding;

@@ -13,6 +13,3 @@ mod whole;
 pub use fault::{PortFault, PortKind, PortStop};
 pub use law::ports_are_read_as_said;
 pub use reader::Reader;
-
-#[cfg(test)]
-mod tests;

@@ -13,6 +13,3 @@ pub use dominance::{dominant, product_of_rows, row_of};
 pub use gap_base::Row;
 pub use quadratic::form;
 pub use shift::Shift;
-
-#[cfg(test)]
-mod tests;

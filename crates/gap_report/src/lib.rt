@@ -12,6 +12,3 @@ pub use laws::texts_tell_outcomes;
 pub use lots::lots_line;
 pub use market::market_line;
 pub use weight::{verdict_line, weight_line};
-
-#[cfg(test)]
-mod tests;

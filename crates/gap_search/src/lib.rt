@@ -7,6 +7,3 @@ mod search;
 
 pub use laws::{every_order, refusals, sound_board};
 pub use search::{Search, Ticket};
-
-#[cfg(test)]
-mod tests;

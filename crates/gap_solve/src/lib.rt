@@ -7,6 +7,3 @@ mod searching;
 mod solving;
 
 pub use solving::solve_one;
-
-#[cfg(test)]
-mod tests;

@@ -1,5 +1,5 @@
 -- Laws of the steps to neighbours.
-use Rattle.std.proofs.Common.{◌≡◌, ℕ, ◌+◌, ◌-◌, ◌<◌, ◌≤◌, List, length, slice_index_or, slice_set, ℤ, pos, ◌+ℤ◌, ◌≤ℤ◌, ◌<ℤ◌, ◌⊎◌, inl, inr, refl, sym, ap, subst, arith, Option, None, Some, length-set, get_or-set_same, unsigned_abs}
+use Rattle.std.proofs.Common.{◌≡◌, ◌≢◌, ℕ, ◌+◌, ◌-◌, ◌<◌, ◌≤◌, List, length, slice_index_or, slice_set, ℤ, pos, ◌+ℤ◌, ◌≤ℤ◌, ◌<ℤ◌, ◌⊎◌, inl, inr, refl, sym, ap, subst, arith, Option, None, Some, length-set, get_or-set_same, get_or-set_other, unsigned_abs}
 use Rattle.std.proofs.lemmas.Bool.{cases_lt}
 use Rattle.std.proofs.lemmas.Int.{ints}
 use Rattle.std.proofs.lemmas.List.{get_or_past}
@@ -20,15 +20,34 @@ NoneBelow-lower I p q x v w kind i j none le can meets = let a = none can meets 
 taker_moved : (x : List ℕ) (i j : ℕ) → j < length x → slice_index_or (lot_moved x i j) j 0 ≡ slice_index_or x j 0 + 1
 taker_moved x i j h = get_or-set_same (slice_set x i (slice_index_or x i 0 - 1)) j (slice_index_or x j 0 + 1) 0 (rw (length-set x i (slice_index_or x i 0 - 1)) h)
 
+giver_moved : (x : List ℕ) (i j : ℕ) → (i ≢ j) → i < length x → slice_index_or (lot_moved x i j) i 0 ≡ slice_index_or x i 0 - 1
+giver_moved x i j other h =
+    let a = get_or-set_same x i (slice_index_or x i 0 - 1) 0 h in
+    let b = get_or-set_other (slice_set x i (slice_index_or x i 0 - 1)) j i (slice_index_or x j 0 + 1) 0 other in
+    rw b a
+
 taker_exchanged : (x : List ℕ) (i j : ℕ) → j < length x → slice_index_or (exchanged x i j) j 0 ≡ slice_index_or x i 0
 taker_exchanged x i j h = get_or-set_same (slice_set x i (slice_index_or x j 0)) j (slice_index_or x i 0) 0 (rw (length-set x i (slice_index_or x j 0)) h)
+
+inside : (x : List ℕ) (i : ℕ) → 0 < slice_index_or x i 0 → i < length x
+inside x i h = here (cases_lt i (length x))
+  where
+    here : (i < length x) ⊎ (length x ≤ i) → i < length x
+    here (inl l) = l
+    here (inr l) = let z = get_or_past x i 0 l in absurd (omega arith)
 
 -- a step to a list that meets the limits has room
 pub HasRoom-meets : (I : InstanceValue) (x : List ℕ) (kind : Kind) (i j : ℕ) → length x ≡ I.market.assets → j < I.market.assets → CanStep x kind i j → MeetsLimits I (stepped x kind i j) → HasRoom I x kind i j
 HasRoom-meets I x Move i j size h can meets =
     let new = taker_moved x i j (rw size h) in
     let most = meets.greatest_kept j h in
-    (can.0, can.1, can.2, omega arith)
+    let held = inside x i can.1 in
+    let left = giver_moved x i j can.0 held in
+    (can.0, can.1, can.2, omega arith, some_left (cases_lt 1 (slice_index_or x i 0)) left (λ more. meets.least_kept i (rw (sym size) held) more))
+  where
+    some_left : (1 < slice_index_or x i 0) ⊎ (slice_index_or x i 0 ≤ 1) → slice_index_or (lot_moved x i j) i 0 ≡ slice_index_or x i 0 - 1 → (0 < slice_index_or (lot_moved x i j) i 0 → slice_index_or I.least i 0 ≤ slice_index_or (lot_moved x i j) i 0) → slice_index_or x i 0 ≡ 1 ⊎ slice_index_or I.least i 0 < slice_index_or x i 0
+    some_left (inl more) left kept = let least = kept (omega arith) in inr (omega arith)
+    some_left (inr few) left kept = let held = can.1 in inl (omega arith)
 HasRoom-meets I x Replace i j size h can meets =
     let new = taker_exchanged x i j (rw size h) in
     let most = meets.greatest_kept j h in
@@ -62,13 +81,6 @@ NoneBelow-flat I p q x v Replace i j low stays can meets =
 pub NoneBelow-empty : (I : InstanceValue) (p q : ℕ) (x : List ℕ) (v : ℤ) (kind : Kind) (i : ℕ) → slice_index_or x i 0 ≡ 0 → NoneBelowFrom I p q x v kind i I.market.assets
 NoneBelow-empty I p q x v Move i e j h can meets = let a = can.1 in absurd (omega arith)
 NoneBelow-empty I p q x v Replace i e j h can meets = let a = can.1 in absurd (omega arith)
-
-inside : (x : List ℕ) (i : ℕ) → 0 < slice_index_or x i 0 → i < length x
-inside x i h = here (cases_lt i (length x))
-  where
-    here : (i < length x) ⊎ (length x ≤ i) → i < length x
-    here (inl l) = l
-    here (inr l) = let z = get_or_past x i 0 l in absurd (omega arith)
 
 -- where no step of either kind leads below the objective of a list, it has no better neighbour
 pub no_better : (I : InstanceValue) (p q : ℕ) (x : List ℕ) (v : ℤ) → length x ≡ I.market.assets → v ≡ objective I p q x → NoneBelowKind I p q x v Move → NoneBelowKind I p q x v Replace → HasNoBetterNeighbour I p q x

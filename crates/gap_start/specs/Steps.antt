@@ -1,5 +1,5 @@
 -- Steps from a list of lots to its neighbours. Own to portgap.
-use Rattle.std.specs.Prelude.{◌≡◌, ◌≢◌, ℕ, ◌<◌, ◌≤◌, List, length, slice_index_or, Option, None, Some, ℤ, pos, ◌+ℤ◌, ◌≤ℤ◌, ◌<ℤ◌, unsigned_abs}
+use Rattle.std.specs.Prelude.{◌≡◌, ◌≢◌, ℕ, ◌<◌, ◌≤◌, ◌⊎◌, List, length, slice_index_or, Option, None, Some, ℤ, pos, ◌+ℤ◌, ◌≤ℤ◌, ◌<ℤ◌, unsigned_abs}
 use Rattle.gap_instance.specs.Instances.{InstanceValue}
 use Rattle.gap_instance.specs.Limits.{MeetsLimits}
 use Rattle.gap_instance.specs.Neighbours.{lot_moved, exchanged}
@@ -19,11 +19,12 @@ abbrev pub stepped : List ℕ → Kind → ℕ → ℕ → List ℕ
 stepped x Move i j = lot_moved x i j
 stepped x Replace i j = exchanged x i j
 
--- there is such a step, and asset j has room for what it gets
+-- there is such a step, asset j has room for what it gets, and asset i may keep what it has left
 abbrev pub HasRoom : InstanceValue → List ℕ → Kind → ℕ → ℕ → Type 0
 HasRoom I x Move i j =
     (i ≢ j) × (0 < slice_index_or x i 0) × (0 < slice_index_or x j 0)
     × (slice_index_or x j 0 < slice_index_or I.greatest j 0)
+    × (slice_index_or x i 0 ≡ 1 ⊎ slice_index_or I.least i 0 < slice_index_or x i 0)
 HasRoom I x Replace i j =
     (0 < slice_index_or x i 0) × (slice_index_or x j 0 ≡ 0) × (slice_index_or I.least j 0 ≤ slice_index_or x i 0)
     × (slice_index_or x i 0 ≤ slice_index_or I.greatest j 0)

@@ -7,8 +7,6 @@ mod polishing;
 mod rounding;
 mod starting;
 mod step;
-#[cfg(test)]
-mod tests;
 
 pub use polishing::polish;
 pub use rounding::{polished, rounded, rounding_of};

@@ -139,7 +139,7 @@ fn better_by_value(h: &Holding<'_>, kind: Kind, i: u16, j: u16, before: Found) -
     before
 }
 
-/// Is this a step, and does the taker have room for what it gets?
+/// Is this a step, does the taker have room for what it gets, and may the giver keep what it has left?
 fn has_room(h: &Holding<'_>, kind: Kind, i: u16, j: u16) -> bool
     requires giver { i < h.now.instance.market.assets }
     requires taker { j < h.now.instance.market.assets }
@@ -149,7 +149,10 @@ fn has_room(h: &Holding<'_>, kind: Kind, i: u16, j: u16) -> bool
     let given = h.lots().get(i);
     let taken = h.lots().get(j);
     match kind {
-        Kind::Move => i != j && 0 < given && 0 < taken && taken < inst.hi(j),
+        Kind::Move => {
+            let fits = i != j && 0 < given && 0 < taken && taken < inst.hi(j);
+            fits && (given == 1 || inst.lo(i) < given)
+        }
         Kind::Replace => 0 < given && taken == 0 && inst.lo(j) <= given && given <= inst.hi(j),
     }
 }

@@ -34,6 +34,3 @@ pub use point::Point;
 pub use tangent::Tangent;
 pub use terms::TangentTerms;
 pub use thetas::{theta, void_theta};
-
-#[cfg(test)]
-mod tests;

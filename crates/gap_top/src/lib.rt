@@ -13,8 +13,6 @@ mod perform;
 mod print;
 mod stop;
 mod tell;
-#[cfg(test)]
-mod tests;
 
 pub use crate::laws::{
     answers_are_complete, answers_are_right, upgrades_are_right, verdicts_are_right,

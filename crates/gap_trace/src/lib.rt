@@ -4,8 +4,6 @@
 
 mod halt;
 mod put;
-#[cfg(test)]
-mod tests;
 
 pub use halt::Halt;
 pub use put::{append, print, start};

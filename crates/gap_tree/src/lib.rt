@@ -9,6 +9,3 @@ mod tree;
 
 pub use laws::nodes_are_a_tree;
 pub use tree::Tree;
-
-#[cfg(test)]
-mod tests;

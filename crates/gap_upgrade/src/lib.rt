@@ -10,8 +10,6 @@ mod copying;
 mod laws;
 mod pouring;
 mod stop;
-#[cfg(test)]
-mod tests;
 
 use crate::closing::close;
 use crate::copying::copy;

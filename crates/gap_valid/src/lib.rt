@@ -2,8 +2,6 @@
 #![tactic(auto)]
 
 mod laws;
-#[cfg(test)]
-mod tests;
 
 pub use laws::{
     entries_stand_in_order, heads_are_read, least_shown_is_least, leaves_show_as_bounds,

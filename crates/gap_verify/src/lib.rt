@@ -7,8 +7,6 @@ mod laws;
 mod line;
 mod said;
 mod sides;
-#[cfg(test)]
-mod tests;
 
 pub use difference::Difference;
 pub use field::Field;

@@ -3,8 +3,6 @@
 
 mod laws;
 mod level;
-#[cfg(test)]
-mod tests;
 mod walk;
 
 pub use laws::walks_follow_trees;

@@ -17,6 +17,3 @@ mod step;
 pub use places::first_greatest_is;
 pub use pointing::{kept_tangent_point, tangent_point};
 pub use splitting::split_for;
-
-#[cfg(test)]
-mod tests;

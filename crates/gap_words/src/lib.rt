@@ -7,8 +7,6 @@ mod job_line;
 mod number;
 mod port_line;
 mod refusal;
-#[cfg(test)]
-mod tests;
 
 pub use form::{DemoWords, Form, QuickWords, form_of};
 pub use refusal::Refusal;

@@ -1,0 +1,212 @@
+//! Starts and polished lists of small instances.
+
+ghost use Rattle.std.specs.Prelude.{◌≡◌, ◌≤◌, IfOk, IfSome, length};
+ghost use Rattle.gap_instance.specs.Instances.{AreBetween};
+
+use gap_base::{Eighths, Job, Lots, OutOfMemory, Weight, Weights};
+use gap_box::{Part, Side, Split};
+use gap_instance::Instance;
+use gap_objective::Holding;
+use gap_samples::{even, three, two, two_assets};
+use gap_start::{polish, polished, rounded, rounding_of, start};
+use std::alloc::Global;
+use std::test::Fail;
+
+/// The two numbers of the list to which `x` is polished under the weight 1/q; 0 and 0 where it breaks a limit.
+#[tactic(auto, using(gap_instance::proofs::LimitLaws::few_numbers))]
+fn after_polish(alloc: Global, q: u8, x: &Lots) -> Result<(u16, u16), OutOfMemory>
+    requires { AreBetween 2 0 10000 x.now }
+{
+    let inst = two_assets(alloc, 1)?;
+    let mut holding = Holding::new(&inst, Weight { p: 1, q }, x);
+    if inst.keeps(holding.lots()).is_some() {
+        return Ok((0, 0));
+    }
+    polish(&mut holding);
+    let list = holding.lots();
+    if list.len() < 2 {
+        return Ok((0, 0));
+    }
+    Ok((list.get(0), list.get(1)))
+}
+
+#[test]
+#[tactic(auto, using(gap_instance::proofs::LimitLaws::few_numbers))]
+fn no_lot_goes_to_an_asset_that_is_not_held(rt: HostRuntime) -> Result<(), Fail> {
+    assert_eq!(rt; after_polish(rt.alloc(), 1, &two(10, 0))?, (10, 0));
+    assert_eq!(rt; after_polish(rt.alloc(), 1, &two(0, 10))?, (10, 0));
+    Ok(())
+}
+
+#[test]
+#[tactic(auto, using(gap_instance::proofs::LimitLaws::few_numbers))]
+fn lots_move_to_the_best_of_two_held(rt: HostRuntime) -> Result<(), Fail> {
+    assert_eq!(rt; after_polish(rt.alloc(), 2, &two(3, 7))?, (8, 2));
+    assert_eq!(rt; after_polish(rt.alloc(), 1, &two(9, 1))?, (8, 2));
+    Ok(())
+}
+
+/// The two numbers of the start with at least `fewest` assets under the weight 1/q; 0 and 0 where there is none.
+fn started(alloc: Global, fewest: u16, q: u8) -> Result<(u16, u16), OutOfMemory>
+    requires least { 1 ≤ fewest }
+    requires most { fewest ≤ 2 }
+{
+    let inst = two_assets(alloc, fewest)?;
+    match start(&inst, Weight { p: 1, q }) {
+        Some(list) => {
+            if list.len() < 2 {
+                return Ok((0, 0));
+            }
+            Ok((list.get(0), list.get(1)))
+        }
+        None => Ok((0, 0)),
+    }
+}
+
+#[test]
+fn a_start_holds_two_assets_or_one(rt: HostRuntime) -> Result<(), Fail> {
+    assert_eq!(rt; started(rt.alloc(), 2, 2)?, (8, 2));
+    assert_eq!(rt; started(rt.alloc(), 1, 1)?, (10, 0));
+    Ok(())
+}
+
+/// The first two numbers of a list.
+fn pair(list: &Lots) -> (u16, u16) {
+    let _assets = list.len();
+    (list.get(0), list.get(1))
+}
+
+#[test]
+#[tactic(auto, using(gap_instance::proofs::LimitLaws::few_numbers))]
+fn a_point_is_rounded_before_it_is_polished(rt: HostRuntime) -> Result<(), Fail> {
+    let inst = two_assets(rt.alloc(), 1)?;
+    let w = Weight { p: 1, q: 2 };
+    let part = Part::root(&two(1, 1), &two(10, 10));
+    let mut y = Eighths::zeros(2);
+    y.set(0, 24);
+    y.set(1, 56);
+    let list = rounding_of(&inst, w, &part, &y);
+    assert_eq!(rt; pair(&list), (3, 7));
+    assert_eq!(rt; polished(&inst, w, &list).map(|x| pair(&x)), Some((8, 2)));
+    assert!(rt; polished(&inst, w, &two(3, 8)).is_none());
+    Ok(())
+}
+
+/// Three assets with means 0, deviations .1 and no correlation, and 10 lots in `fewest` to `most` of them.
+#[tactic(auto, using(gap_instance::proofs::LimitLaws::few_numbers))]
+fn alike(
+    alloc: Global,
+    fewest: u16,
+    most: u16,
+    present: &Lots,
+    turnover: Option<u32>,
+) -> Result<Instance, OutOfMemory>
+    requires least { 1 ≤ fewest }
+    requires range { fewest ≤ most }
+    requires most { most ≤ 3 }
+    requires present { AreBetween 3 0 10000 present.now }
+    requires turnover { IfSome turnover (λ t. t ≤ 3000000) }
+    ensures { IfOk result (λ inst. inst.market.assets ≡ 3) }
+{
+    let market = even(alloc, 3, 100_000, 0)?;
+    let job = Job {
+        lots: 10,
+        held: fewest,
+        held_most: most,
+        least: three(1, 1, 1),
+        greatest: three(9, 9, 9),
+        present: present.copy(),
+        turnover,
+        weights: Weights::new(),
+        nodes: 0,
+        workers: 1,
+    };
+    Instance::new(alloc, market, &job)
+}
+
+/// The part of three assets that may each be held.
+fn whole() -> Part
+    ensures { length result ≡ 3 }
+{
+    Part::root(&three(1, 1, 1), &three(9, 9, 9))
+}
+
+/// A child of a part of three assets, where the split is lawful.
+fn child(part: &Part, split: Split, side: Side) -> Part
+    requires { length part.now ≡ 3 }
+    ensures { length result ≡ 3 }
+{
+    if part.lawful(split) {
+        part.child(split, side)
+    } else {
+        part.copy()
+    }
+}
+
+/// The three numbers of the list to which eighths are rounded under the weight 1/1; 0, 0 and 0 where there is none.
+fn numbers(inst: &Instance, part: &Part, a: u32, b: u32, c: u32) -> (u16, u16, u16)
+    requires instance { inst.now.market.assets ≡ 3 }
+    requires part { length part.now ≡ 3 }
+{
+    let mut y = Eighths::zeros(3);
+    y.set(0, a);
+    y.set(1, b);
+    y.set(2, c);
+    match rounded(inst, Weight { p: 1, q: 1 }, part, &y) {
+        Some(list) => {
+            if list.len() < 3 {
+                return (0, 0, 0);
+            }
+            (list.get(0), list.get(1), list.get(2))
+        }
+        None => (0, 0, 0),
+    }
+}
+
+#[test]
+#[tactic(auto, using(gap_instance::proofs::LimitLaws::few_numbers))]
+fn the_assets_with_the_most_eighths_are_held(rt: HostRuntime) -> Result<(), Fail> {
+    let none = three(0, 0, 0);
+    let two = alike(rt.alloc(), 2, 2, &none, None)?;
+    assert_eq!(rt; numbers(&two, &whole(), 8, 40, 24), (0, 5, 5));
+    assert_eq!(rt; numbers(&two, &whole(), 16, 24, 16), (5, 5, 0));
+    let some = alike(rt.alloc(), 1, 3, &none, None)?;
+    assert_eq!(rt; numbers(&some, &whole(), 8, 40, 24), (3, 4, 3));
+    assert_eq!(rt; numbers(&some, &whole(), 8, 40, 0), (5, 5, 0));
+    let several = alike(rt.alloc(), 2, 3, &none, None)?;
+    assert_eq!(rt; numbers(&several, &whole(), 0, 40, 0), (5, 5, 0));
+    Ok(())
+}
+
+#[test]
+#[tactic(auto, using(gap_instance::proofs::LimitLaws::few_numbers))]
+fn the_cells_of_the_part_come_first(rt: HostRuntime) -> Result<(), Fail> {
+    let inst = alike(rt.alloc(), 2, 2, &three(0, 0, 0), None)?;
+    let held = child(&whole(), Split::Held(2), Side::Second);
+    assert_eq!(rt; numbers(&inst, &held, 16, 24, 0), (0, 5, 5));
+    let out = child(&whole(), Split::Held(1), Side::First);
+    assert_eq!(rt; numbers(&inst, &out, 8, 40, 24), (5, 0, 5));
+    Ok(())
+}
+
+#[test]
+#[tactic(auto, using(gap_instance::proofs::LimitLaws::few_numbers))]
+fn a_turnover_limit_leads_to_the_present_lots(rt: HostRuntime) -> Result<(), Fail> {
+    let nearer = alike(rt.alloc(), 2, 2, &three(0, 9, 1), Some(6))?;
+    assert_eq!(rt; numbers(&nearer, &whole(), 0, 32, 32), (0, 6, 4));
+    let below = alike(rt.alloc(), 2, 2, &three(0, 9, 1), Some(5))?;
+    assert_eq!(rt; numbers(&below, &whole(), 0, 32, 32), (0, 0, 0));
+    let fewer = alike(rt.alloc(), 2, 2, &three(0, 8, 2), Some(0))?;
+    assert_eq!(rt; numbers(&fewer, &whole(), 0, 64, 32), (0, 8, 2));
+    Ok(())
+}
+
+#[test]
+#[tactic(auto, using(gap_instance::proofs::LimitLaws::few_numbers))]
+fn a_list_that_breaks_a_limit_is_none(rt: HostRuntime) -> Result<(), Fail> {
+    let inst = alike(rt.alloc(), 1, 3, &three(0, 0, 0), None)?;
+    assert_eq!(rt; numbers(&inst, &whole(), 0, 40, 0), (0, 0, 0));
+    let still = alike(rt.alloc(), 2, 2, &three(9, 1, 0), Some(0))?;
+    assert_eq!(rt; numbers(&still, &whole(), 0, 40, 24), (0, 0, 0));
+    Ok(())
+}

@@ -1,0 +1,15 @@
+//! The tests of files, words, `upgrade` and the public call. They call
+//! what is public alone, and stand apart so that no layer is proved twice.
+#![tactic(auto)]
+
+#[cfg(test)]
+mod files;
+pub mod outside;
+#[cfg(test)]
+mod top;
+#[cfg(test)]
+mod trace;
+#[cfg(test)]
+mod upgrade;
+#[cfg(test)]
+mod words;
