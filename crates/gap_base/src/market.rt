@@ -162,26 +162,3 @@ impl Market {
         self.rounded += 1;
     }
 }
-
-#[cfg(test)]
-mod tests {
-    use super::*;
-    use std::test::Fail;
-
-    #[test]
-    fn keeps_what_is_set(rt: HostRuntime) -> Result<(), Fail> {
-        let mut market = Market::new(rt.alloc(), 3)?;
-        market.set_mean(2, -5);
-        market.set_dev(1, 7);
-        market.set_rho(0, 2, -1_000_000);
-        market.add_rounded();
-        assert_eq!(rt; market.n(), 3);
-        assert_eq!(rt; market.mean(2), -5);
-        assert_eq!(rt; market.dev(1), 7);
-        assert_eq!(rt; market.rho(2, 0), -1_000_000);
-        assert_eq!(rt; market.rho(1, 2), 0);
-        assert_eq!(rt; market.rho(1, 1), 1_000_000);
-        assert_eq!(rt; market.rounded(), 1);
-        Ok(())
-    }
-}

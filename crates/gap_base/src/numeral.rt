@@ -154,6 +154,3 @@ pub fn read_numeral(token: &[u8]) -> Result<Rounded, NumeralFault>
         None => Err(NumeralFault::Shape),
     }
 }
-
-#[cfg(test)]
-mod tests;

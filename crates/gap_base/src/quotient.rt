@@ -11,18 +11,3 @@ pub fn ceil_div64(v: i128) -> i128
     let below = v.div_euclid(64);
     if below * 64 < v { below + 1 } else { below }
 }
-
-#[cfg(test)]
-mod tests {
-    use super::*;
-    use std::test::Fail;
-
-    #[test]
-    fn rounds_up(rt: HostRuntime) -> Result<(), Fail> {
-        assert_eq!(rt; ceil_div64(128), 2);
-        assert_eq!(rt; ceil_div64(129), 3);
-        assert_eq!(rt; ceil_div64(-1), 0);
-        assert_eq!(rt; ceil_div64(-65), -1);
-        Ok(())
-    }
-}

@@ -33,18 +33,3 @@ pub fn put_fraction(out: &mut Vec<u8>, num: i128, den: i128) -> Result<(), OutOf
     out.extend_from_slice(below)?;
     Ok(())
 }
-
-#[cfg(test)]
-mod tests {
-    use super::*;
-    use std::test::Fail;
-
-    #[test]
-    fn appends_a_fraction(rt: HostRuntime) -> Result<(), Fail> {
-        let mut out = Vec::new(rt.alloc());
-        put_i128(&mut out, -17)?;
-        put_fraction(&mut out, 0, 4_000_000_000_000_000_000_000)?;
-        assert_eq!(rt; out.as_slice(), b"-170/4000000000000000000000".as_slice());
-        Ok(())
-    }
-}

@@ -17,6 +17,3 @@ mod voids;
 pub use best::{best_alpha, best_tau};
 pub use for_part::witness_for;
 pub use hinted::Hinted;
-
-#[cfg(test)]
-mod tests;

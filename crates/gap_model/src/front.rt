@@ -28,29 +28,3 @@ pub fn efficient(rows: &[FrontRow], k: usize) -> bool
     let row = rows[k];
     rows.iter().all(|other| !dominates(*other, row))
 }
-
-#[cfg(test)]
-mod tests {
-    use super::*;
-
-    // A row of the weight 1/1.
-    fn row(risk: i128, ret: i128) -> FrontRow
-        ensures { result.risk ≡ risk }
-    {
-        FrontRow {
-            weight: Weight { p: 1, q: 1 },
-            risk,
-            ret,
-        }
-    }
-
-    #[test]
-    fn equal_rows_dominate_neither(rt: HostRuntime) {
-        let rows = [row(4, 7), row(4, 7), row(5, 7), row(4, 6), row(9, 9)];
-        assert!(rt; efficient(&rows, 0));
-        assert!(rt; efficient(&rows, 1));
-        assert!(rt; !efficient(&rows, 2));
-        assert!(rt; !efficient(&rows, 3));
-        assert!(rt; efficient(&rows, 4));
-    }
-}

@@ -2,7 +2,13 @@
 //! what is public alone, and stand apart so that no layer is proved twice.
 #![tactic(auto)]
 
+#[cfg(test)]
+mod choices;
 pub mod drawing;
+#[cfg(test)]
+mod multipliers;
+#[cfg(test)]
+mod prices;
 #[cfg(test)]
 mod start;
 #[cfg(test)]

@@ -1,7 +1,6 @@
 //! Starts and polished lists of small instances.
 
 ghost use Rattle.std.specs.Prelude.{◌≡◌, ◌≤◌, IfOk, IfSome, length};
-ghost use Rattle.gap_instance.specs.Instances.{AreBetween};
 
 use gap_base::{Eighths, Job, Lots, OutOfMemory, Weight, Weights};
 use gap_box::{Part, Side, Split};
@@ -14,11 +13,12 @@ use std::test::Fail;
 
 /// The two numbers of the list to which `x` is polished under the weight 1/q; 0 and 0 where it breaks a limit.
 #[tactic(auto, using(gap_instance::proofs::LimitLaws::few_numbers))]
-fn after_polish(alloc: Global, q: u8, x: &Lots) -> Result<(u16, u16), OutOfMemory>
-    requires { AreBetween 2 0 10000 x.now }
+fn after_polish(alloc: Global, q: u8, x: (u16, u16)) -> Result<(u16, u16), OutOfMemory>
+    requires first { x.0 ≤ 10000 }
+    requires second { x.1 ≤ 10000 }
 {
     let inst = two_assets(alloc, 1)?;
-    let mut holding = Holding::new(&inst, Weight { p: 1, q }, x);
+    let mut holding = Holding::new(&inst, Weight { p: 1, q }, &two(x.0, x.1));
     if inst.keeps(holding.lots()).is_some() {
         return Ok((0, 0));
     }
@@ -31,18 +31,16 @@ fn after_polish(alloc: Global, q: u8, x: &Lots) -> Result<(u16, u16), OutOfMemor
 }
 
 #[test]
-#[tactic(auto, using(gap_instance::proofs::LimitLaws::few_numbers))]
 fn no_lot_goes_to_an_asset_that_is_not_held(rt: HostRuntime) -> Result<(), Fail> {
-    assert_eq!(rt; after_polish(rt.alloc(), 1, &two(10, 0))?, (10, 0));
-    assert_eq!(rt; after_polish(rt.alloc(), 1, &two(0, 10))?, (10, 0));
+    assert_eq!(rt; after_polish(rt.alloc(), 1, (10, 0))?, (10, 0));
+    assert_eq!(rt; after_polish(rt.alloc(), 1, (0, 10))?, (10, 0));
     Ok(())
 }
 
 #[test]
-#[tactic(auto, using(gap_instance::proofs::LimitLaws::few_numbers))]
 fn lots_move_to_the_best_of_two_held(rt: HostRuntime) -> Result<(), Fail> {
-    assert_eq!(rt; after_polish(rt.alloc(), 2, &two(3, 7))?, (8, 2));
-    assert_eq!(rt; after_polish(rt.alloc(), 1, &two(9, 1))?, (8, 2));
+    assert_eq!(rt; after_polish(rt.alloc(), 2, (3, 7))?, (8, 2));
+    assert_eq!(rt; after_polish(rt.alloc(), 1, (9, 1))?, (8, 2));
     Ok(())
 }
 
@@ -76,19 +74,30 @@ fn pair(list: &Lots) -> (u16, u16) {
     (list.get(0), list.get(1))
 }
 
-#[test]
+/// The list to which a point is rounded where one or two of two assets are held, the list to which this is polished, and
+/// that to which 3 and 8 lots are.
 #[tactic(auto, using(gap_instance::proofs::LimitLaws::few_numbers))]
-fn a_point_is_rounded_before_it_is_polished(rt: HostRuntime) -> Result<(), Fail> {
-    let inst = two_assets(rt.alloc(), 1)?;
+fn rounded_at(
+    alloc: Global,
+    y: (u32, u32),
+) -> Result<((u16, u16), [Option<(u16, u16)>; 2]), OutOfMemory> {
+    let inst = two_assets(alloc, 1)?;
     let w = Weight { p: 1, q: 2 };
     let part = Part::root(&two(1, 1), &two(10, 10));
-    let mut y = Eighths::zeros(2);
-    y.set(0, 24);
-    y.set(1, 56);
-    let list = rounding_of(&inst, w, &part, &y);
-    assert_eq!(rt; pair(&list), (3, 7));
-    assert_eq!(rt; polished(&inst, w, &list).map(|x| pair(&x)), Some((8, 2)));
-    assert!(rt; polished(&inst, w, &two(3, 8)).is_none());
+    let mut point = Eighths::zeros(2);
+    point.set(0, y.0);
+    point.set(1, y.1);
+    let list = rounding_of(&inst, w, &part, &point);
+    let first = polished(&inst, w, &list).map(|x| pair(&x));
+    let second = polished(&inst, w, &two(3, 8)).map(|x| pair(&x));
+    Ok((pair(&list), [first, second]))
+}
+
+#[test]
+fn a_point_is_rounded_before_it_is_polished(rt: HostRuntime) -> Result<(), Fail> {
+    let (list, lists) = rounded_at(rt.alloc(), (24, 56))?;
+    assert_eq!(rt; list, (3, 7));
+    assert_eq!(rt; lists, [Some((8, 2)), None]);
     Ok(())
 }
 
@@ -98,13 +107,15 @@ fn alike(
     alloc: Global,
     fewest: u16,
     most: u16,
-    present: &Lots,
+    present: (u16, u16, u16),
     turnover: Option<u32>,
 ) -> Result<Instance, OutOfMemory>
     requires least { 1 ≤ fewest }
     requires range { fewest ≤ most }
     requires most { most ≤ 3 }
-    requires present { AreBetween 3 0 10000 present.now }
+    requires first { present.0 ≤ 10000 }
+    requires second { present.1 ≤ 10000 }
+    requires third { present.2 ≤ 10000 }
     requires turnover { IfSome turnover (λ t. t ≤ 3000000) }
     ensures { IfOk result (λ inst. inst.market.assets ≡ 3) }
 {
@@ -115,7 +126,7 @@ fn alike(
         held_most: most,
         least: three(1, 1, 1),
         greatest: three(9, 9, 9),
-        present: present.copy(),
+        present: three(present.0, present.1, present.2),
         turnover,
         weights: Weights::new(),
         nodes: 0,
@@ -164,24 +175,22 @@ fn numbers(inst: &Instance, part: &Part, a: u32, b: u32, c: u32) -> (u16, u16, u
 }
 
 #[test]
-#[tactic(auto, using(gap_instance::proofs::LimitLaws::few_numbers))]
 fn the_assets_with_the_most_eighths_are_held(rt: HostRuntime) -> Result<(), Fail> {
-    let none = three(0, 0, 0);
-    let two = alike(rt.alloc(), 2, 2, &none, None)?;
+    let none = (0, 0, 0);
+    let two = alike(rt.alloc(), 2, 2, none, None)?;
     assert_eq!(rt; numbers(&two, &whole(), 8, 40, 24), (0, 5, 5));
     assert_eq!(rt; numbers(&two, &whole(), 16, 24, 16), (5, 5, 0));
-    let some = alike(rt.alloc(), 1, 3, &none, None)?;
+    let some = alike(rt.alloc(), 1, 3, none, None)?;
     assert_eq!(rt; numbers(&some, &whole(), 8, 40, 24), (3, 4, 3));
     assert_eq!(rt; numbers(&some, &whole(), 8, 40, 0), (5, 5, 0));
-    let several = alike(rt.alloc(), 2, 3, &none, None)?;
+    let several = alike(rt.alloc(), 2, 3, none, None)?;
     assert_eq!(rt; numbers(&several, &whole(), 0, 40, 0), (5, 5, 0));
     Ok(())
 }
 
 #[test]
-#[tactic(auto, using(gap_instance::proofs::LimitLaws::few_numbers))]
 fn the_cells_of_the_part_come_first(rt: HostRuntime) -> Result<(), Fail> {
-    let inst = alike(rt.alloc(), 2, 2, &three(0, 0, 0), None)?;
+    let inst = alike(rt.alloc(), 2, 2, (0, 0, 0), None)?;
     let held = child(&whole(), Split::Held(2), Side::Second);
     assert_eq!(rt; numbers(&inst, &held, 16, 24, 0), (0, 5, 5));
     let out = child(&whole(), Split::Held(1), Side::First);
@@ -190,23 +199,21 @@ fn the_cells_of_the_part_come_first(rt: HostRuntime) -> Result<(), Fail> {
 }
 
 #[test]
-#[tactic(auto, using(gap_instance::proofs::LimitLaws::few_numbers))]
 fn a_turnover_limit_leads_to_the_present_lots(rt: HostRuntime) -> Result<(), Fail> {
-    let nearer = alike(rt.alloc(), 2, 2, &three(0, 9, 1), Some(6))?;
+    let nearer = alike(rt.alloc(), 2, 2, (0, 9, 1), Some(6))?;
     assert_eq!(rt; numbers(&nearer, &whole(), 0, 32, 32), (0, 6, 4));
-    let below = alike(rt.alloc(), 2, 2, &three(0, 9, 1), Some(5))?;
+    let below = alike(rt.alloc(), 2, 2, (0, 9, 1), Some(5))?;
     assert_eq!(rt; numbers(&below, &whole(), 0, 32, 32), (0, 0, 0));
-    let fewer = alike(rt.alloc(), 2, 2, &three(0, 8, 2), Some(0))?;
+    let fewer = alike(rt.alloc(), 2, 2, (0, 8, 2), Some(0))?;
     assert_eq!(rt; numbers(&fewer, &whole(), 0, 64, 32), (0, 8, 2));
     Ok(())
 }
 
 #[test]
-#[tactic(auto, using(gap_instance::proofs::LimitLaws::few_numbers))]
 fn a_list_that_breaks_a_limit_is_none(rt: HostRuntime) -> Result<(), Fail> {
-    let inst = alike(rt.alloc(), 1, 3, &three(0, 0, 0), None)?;
+    let inst = alike(rt.alloc(), 1, 3, (0, 0, 0), None)?;
     assert_eq!(rt; numbers(&inst, &whole(), 0, 40, 0), (0, 0, 0));
-    let still = alike(rt.alloc(), 2, 2, &three(9, 1, 0), Some(0))?;
+    let still = alike(rt.alloc(), 2, 2, (9, 1, 0), Some(0))?;
     assert_eq!(rt; numbers(&still, &whole(), 0, 40, 24), (0, 0, 0));
     Ok(())
 }

@@ -28,33 +28,35 @@ fn root_theta(mv: &MeanVariance<'_>, w: &Witness) -> Option<i128>
     theta(mv, &mv.root(), w)
 }
 
-#[test]
-fn thetas_of_two_assets(rt: HostRuntime) -> Result<(), Fail> {
-    let inst = two_assets(rt.alloc(), 2)?;
-    let shift = Shift::zero(rt.alloc(), 2)?;
-    let row = dominant(&inst, &shift);
-    assert!(rt; row.is_none());
+/// Thetas of the two assets at the point (63, 17) for this alpha: of the root, and of the part without the second asset.
+fn thetas_at(alloc: Global, alpha: i128) -> Result<(Option<i128>, Option<i128>), OutOfMemory>
+    requires { unsigned_abs alpha ≤ 1000000000000000000000000000000 }
+{
+    let inst = two_assets(alloc, 2)?;
+    let shift = Shift::zero(alloc, 2)?;
+    if dominant(&inst, &shift).is_some() {
+        return Ok((None, None));
+    }
     let mv = MeanVariance::new(&inst, &shift, Weight { p: 1, q: 2 });
     let mut y = Eighths::zeros(2);
     y.set(0, 63);
     y.set(1, 17);
-    let best = Witness {
-        y: y.copy(),
-        alpha: -9_440_000_000_000_000_000,
-        tau: 0,
-    };
-    assert_eq!(rt; root_theta(&mv, &best), Some(43_310_000_000_000_000_000));
-    let zero = Witness {
-        y,
-        alpha: 0,
-        tau: 0,
-    };
-    assert_eq!(rt; root_theta(&mv, &zero), Some(-32_210_000_000_000_000_000));
+    let w = Witness { y, alpha, tau: 0 };
     let root = mv.root();
     let split = Split::Held(1);
-    assert!(rt; root.lawful(split));
+    if !root.lawful(split) {
+        return Ok((None, None));
+    }
     let out = root.child(split, Side::First);
-    assert_eq!(rt; theta(&mv, &out, &zero), None);
+    Ok((root_theta(&mv, &w), theta(&mv, &out, &w)))
+}
+
+#[test]
+fn thetas_of_two_assets(rt: HostRuntime) -> Result<(), Fail> {
+    let best = thetas_at(rt.alloc(), -9_440_000_000_000_000_000)?;
+    assert_eq!(rt; best, (Some(43_310_000_000_000_000_000), None));
+    let zero = thetas_at(rt.alloc(), 0)?;
+    assert_eq!(rt; zero, (Some(-32_210_000_000_000_000_000), None));
     Ok(())
 }
 
@@ -65,25 +67,25 @@ fn root_line(mv: &MeanVariance<'_>, y: &Eighths) -> Option<Line>
     Tangent::at(mv, y).line_in_alpha(&mv.root(), 0, 0)
 }
 
-#[test]
-fn a_line_through_theta(rt: HostRuntime) -> Result<(), Fail> {
-    let inst = two_assets(rt.alloc(), 2)?;
-    let shift = Shift::zero(rt.alloc(), 2)?;
-    let row = dominant(&inst, &shift);
-    assert!(rt; row.is_none());
+/// The same of the two assets at the point (63, 17): its place, its value and its slope.
+fn line_of_two(alloc: Global) -> Result<Option<(i128, i128, i128)>, OutOfMemory> {
+    let inst = two_assets(alloc, 2)?;
+    let shift = Shift::zero(alloc, 2)?;
+    if dominant(&inst, &shift).is_some() {
+        return Ok(None);
+    }
     let mv = MeanVariance::new(&inst, &shift, Weight { p: 1, q: 2 });
     let mut y = Eighths::zeros(2);
     y.set(0, 63);
     y.set(1, 17);
+    Ok(root_line(&mv, &y).map(|line| (line.place, line.value, line.slope)))
+}
+
+#[test]
+fn a_line_through_theta(rt: HostRuntime) -> Result<(), Fail> {
     // one lot in each asset has theta: 944 + 960 - 5125, and eight lots less than there are
-    match root_line(&mv, &y) {
-        Some(line) => {
-            assert_eq!(rt; line.place, 0);
-            assert_eq!(rt; line.value, -32_210_000_000_000_000_000);
-            assert_eq!(rt; line.slope, -8);
-        }
-        None => assert!(rt; false),
-    }
+    let line = line_of_two(rt.alloc())?;
+    assert_eq!(rt; line, Some((0, -32_210_000_000_000_000_000, -8)));
     Ok(())
 }
 
@@ -155,15 +157,17 @@ fn thetas_by_all_lists(rt: HostRuntime) -> Result<(), Fail> {
     Ok(())
 }
 
-#[test]
-fn leaves_of_two_assets(rt: HostRuntime) -> Result<(), Fail> {
-    let inst = two_assets(rt.alloc(), 2)?;
-    let shift = Shift::zero(rt.alloc(), 2)?;
-    let row = dominant(&inst, &shift);
-    assert!(rt; row.is_none());
+/// What leaves of the two assets' root show: whether one of the count leaves it open, the number of the tangent at the point
+/// (63, 17) under its best alpha, and theta of the void leaf of alpha 1.
+fn shown_of_two(alloc: Global) -> Result<(bool, Option<i128>, Option<i128>), OutOfMemory> {
+    let inst = two_assets(alloc, 2)?;
+    let shift = Shift::zero(alloc, 2)?;
+    if dominant(&inst, &shift).is_some() {
+        return Ok((false, None, None));
+    }
     let mv = MeanVariance::new(&inst, &shift, Weight { p: 1, q: 2 });
     let root = mv.root();
-    assert_eq!(rt; mv.shown(&root, &Leaf::Count), Shown::Nothing);
+    let open = matches!(mv.shown(&root, &Leaf::Count), Shown::Nothing);
     let entries = [
         Entry {
             asset: 0,
@@ -180,10 +184,16 @@ fn leaves_of_two_assets(rt: HostRuntime) -> Result<(), Fail> {
         tau: 0,
         third: 0,
     };
-    assert_eq!(rt;
-        mv.shown(&root, &leaf),
-        Shown::AtLeast(676_718_750_000_000_000)
-    );
-    assert_eq!(rt; void_theta(&mv, &root, 1, 0), Some(-8));
+    let number = match mv.shown(&root, &leaf) {
+        Shown::AtLeast(number) => Some(number),
+        _ => None,
+    };
+    Ok((open, number, void_theta(&mv, &root, 1, 0)))
+}
+
+#[test]
+fn leaves_of_two_assets(rt: HostRuntime) -> Result<(), Fail> {
+    let shown = shown_of_two(rt.alloc())?;
+    assert_eq!(rt; shown, (true, Some(676_718_750_000_000_000), Some(-8)));
     Ok(())
 }

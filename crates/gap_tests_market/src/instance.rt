@@ -30,16 +30,33 @@ fn instance(alloc: Global, fewest: u16, turnover: Option<u32>) -> Result<Instanc
     Instance::new(alloc, Market::new(alloc, 3)?, &job)
 }
 
+/// The first limit that the list of three numbers breaks.
+fn broken(inst: &Instance, a: u16, b: u16, c: u16) -> Option<Broken> {
+    inst.keeps(&three(a, b, c))
+}
+
+/// Does the list have another length than the instance's?
+fn has_another_length(inst: &Instance, list: &Lots) -> bool {
+    matches!(inst.keeps(list), Some(Broken::Length))
+}
+
 #[test]
 fn keeps_answers_the_first_broken_limit(rt: HostRuntime) -> Result<(), Fail> {
     let inst = instance(rt.alloc(), 2, None)?;
-    assert_eq!(rt; inst.keeps(&three(8, 2, 0)), None);
-    assert_eq!(rt; inst.keeps(&Lots::zeros(4)), Some(Broken::Length));
-    assert_eq!(rt; inst.keeps(&three(8, 1, 0)), Some(Broken::Lots));
-    assert_eq!(rt; inst.keeps(&three(10, 0, 0)), Some(Broken::Held));
-    assert_eq!(rt; inst.keeps(&three(4, 4, 2)), Some(Broken::Held));
-    assert_eq!(rt; inst.keeps(&three(1, 9, 0)), Some(Broken::Least(0)));
-    assert_eq!(rt; inst.keeps(&three(0, 5, 5)), Some(Broken::Greatest(2)));
+    for (a, b, c, due) in [
+        (8, 2, 0, None),
+        (8, 1, 0, Some(Broken::Lots)),
+        (10, 0, 0, Some(Broken::Held)),
+        (4, 4, 2, Some(Broken::Held)),
+        (1, 9, 0, Some(Broken::Least(0))),
+        (0, 5, 5, Some(Broken::Greatest(2))),
+        // the earlier of two broken limits
+        (9, 0, 0, Some(Broken::Lots)),
+        (1, 0, 9, Some(Broken::Least(0))),
+    ] {
+        assert_eq!(rt; broken(&inst, a, b, c), due, "{a} {b} {c}");
+    }
+    assert!(rt; has_another_length(&inst, &Lots::zeros(4)));
     Ok(())
 }
 
@@ -47,28 +64,23 @@ fn keeps_answers_the_first_broken_limit(rt: HostRuntime) -> Result<(), Fail> {
 fn a_range_of_held_numbers_takes_both_ends(rt: HostRuntime) -> Result<(), Fail> {
     let inst = instance(rt.alloc(), 1, None)?;
     assert_eq!(rt; (inst.held(), inst.held_most()), (1, 2));
-    assert_eq!(rt; inst.keeps(&three(10, 0, 0)), None);
-    assert_eq!(rt; inst.keeps(&three(8, 2, 0)), None);
-    assert_eq!(rt; inst.keeps(&three(5, 4, 1)), Some(Broken::Held));
-    assert_eq!(rt; inst.keeps(&three(0, 0, 10)), Some(Broken::Greatest(2)));
-    Ok(())
-}
-
-#[test]
-fn the_earlier_of_two_broken_limits_is_answered(rt: HostRuntime) -> Result<(), Fail> {
-    let inst = instance(rt.alloc(), 2, None)?;
-    assert_eq!(rt; inst.keeps(&three(9, 0, 0)), Some(Broken::Lots));
-    assert_eq!(rt; inst.keeps(&three(10, 0, 0)), Some(Broken::Held));
-    assert_eq!(rt; inst.keeps(&three(1, 0, 9)), Some(Broken::Least(0)));
+    for (a, b, c, due) in [
+        (10, 0, 0, None),
+        (8, 2, 0, None),
+        (5, 4, 1, Some(Broken::Held)),
+        (0, 0, 10, Some(Broken::Greatest(2))),
+    ] {
+        assert_eq!(rt; broken(&inst, a, b, c), due, "{a} {b} {c}");
+    }
     Ok(())
 }
 
 #[test]
 fn the_turnover_counts_the_lots_of_assets_given_up(rt: HostRuntime) -> Result<(), Fail> {
-    let at_the_limit = instance(rt.alloc(), 2, Some(8))?;
-    assert_eq!(rt; at_the_limit.keeps(&three(8, 2, 0)), None);
-    let above_it = instance(rt.alloc(), 2, Some(7))?;
-    assert_eq!(rt; above_it.keeps(&three(8, 2, 0)), Some(Broken::Turnover));
+    for (limit, due) in [(8, None), (7, Some(Broken::Turnover))] {
+        let inst = instance(rt.alloc(), 2, Some(limit))?;
+        assert_eq!(rt; broken(&inst, 8, 2, 0), due, "{limit}");
+    }
     Ok(())
 }
 
@@ -78,16 +90,25 @@ fn assets(order: &Order) -> (u16, u16, u16) {
     (at(0), at(1), at(2))
 }
 
+/// Is the order by key empty?
+fn has_none(inst: &Instance) -> bool {
+    inst.order(Weight { p: 1, q: 2 }, By::Key).is_empty()
+}
+
+/// The assets of an order by the weight p/2.
+fn ordered(inst: &Instance, p: u8, by: By) -> (u16, u16, u16) {
+    assets(&inst.order(Weight { p, q: 2 }, by))
+}
+
 #[test]
 fn orders_by_key_by_least_and_by_greatest(rt: HostRuntime) -> Result<(), Fail> {
-    let w = Weight { p: 1, q: 2 };
     let inst = instance(rt.alloc(), 2, None)?;
-    assert_eq!(rt; assets(&inst.order(w, By::Key)), (0, 1, 2));
-    assert_eq!(rt; assets(&inst.order(w, By::Least)), (1, 2, 0));
-    assert_eq!(rt; assets(&inst.order(w, By::Greatest)), (0, 1, 2));
+    assert_eq!(rt; ordered(&inst, 1, By::Key), (0, 1, 2));
+    assert_eq!(rt; ordered(&inst, 1, By::Least), (1, 2, 0));
+    assert_eq!(rt; ordered(&inst, 1, By::Greatest), (0, 1, 2));
     let turning = instance(rt.alloc(), 2, Some(9))?;
-    assert_eq!(rt; assets(&turning.order(w, By::Key)), (0, 2, 1));
-    assert_eq!(rt; turning.order(w, By::Key).is_empty(), false);
+    assert_eq!(rt; ordered(&turning, 1, By::Key), (0, 2, 1));
+    assert!(rt; !has_none(&turning));
     Ok(())
 }
 
@@ -118,27 +139,24 @@ fn tied(alloc: Global, second: u16, turnover: Option<u32>) -> Result<Instance, O
 
 #[test]
 fn ties_of_an_order_go_to_the_lower_asset(rt: HostRuntime) -> Result<(), Fail> {
-    let w = Weight { p: 1, q: 2 };
     let inst = tied(rt.alloc(), 6, None)?;
-    assert_eq!(rt; assets(&inst.order(w, By::Key)), (2, 0, 1));
-    assert_eq!(rt; assets(&inst.order(w, By::Least)), (0, 1, 2));
-    assert_eq!(rt; assets(&inst.order(w, By::Greatest)), (1, 2, 0));
+    assert_eq!(rt; ordered(&inst, 1, By::Key), (2, 0, 1));
+    assert_eq!(rt; ordered(&inst, 1, By::Least), (0, 1, 2));
+    assert_eq!(rt; ordered(&inst, 1, By::Greatest), (1, 2, 0));
     let turning = tied(rt.alloc(), 6, Some(9))?;
-    assert_eq!(rt; assets(&turning.order(w, By::Key)), (0, 1, 2));
+    assert_eq!(rt; ordered(&turning, 1, By::Key), (0, 1, 2));
     // for risk alone the means don't count
-    let risk = Weight { p: 1, q: 1 };
-    assert_eq!(rt; assets(&inst.order(risk, By::Key)), (0, 1, 2));
+    assert_eq!(rt; ordered(&inst, 2, By::Key), (0, 1, 2));
     Ok(())
 }
 
 #[test]
 fn an_order_leaves_out_what_cannot_be_held(rt: HostRuntime) -> Result<(), Fail> {
-    let w = Weight { p: 1, q: 2 };
     let inst = tied(rt.alloc(), 1, None)?;
-    assert_eq!(rt; assets(&inst.order(w, By::Key)), (2, 0, 9));
-    assert_eq!(rt; assets(&inst.order(w, By::Least)), (0, 2, 9));
-    assert_eq!(rt; assets(&inst.order(w, By::Greatest)), (2, 0, 9));
+    assert_eq!(rt; ordered(&inst, 1, By::Key), (2, 0, 9));
+    assert_eq!(rt; ordered(&inst, 1, By::Least), (0, 2, 9));
+    assert_eq!(rt; ordered(&inst, 1, By::Greatest), (2, 0, 9));
     let turning = tied(rt.alloc(), 1, Some(9))?;
-    assert_eq!(rt; assets(&turning.order(w, By::Key)), (0, 2, 9));
+    assert_eq!(rt; ordered(&turning, 1, By::Key), (0, 2, 9));
     Ok(())
 }

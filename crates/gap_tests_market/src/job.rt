@@ -1,4 +1,4 @@
-use gap_base::Weight;
+use gap_base::{Job, Lots, Weights};
 use gap_job::JobFault::{Asset, Kind, NotJson, NotObject, Range, TooLong, Unknown};
 use gap_job::{JobFault, JobStop, Key, read_job};
 use std::alloc::Global;
@@ -26,22 +26,45 @@ fn is_job(alloc: Global, keys: &str) -> bool {
     }
 }
 
+/// The job of this text for two assets.
+fn read(alloc: Global, text: &[u8]) -> Result<Job, JobStop> {
+    read_job(alloc, text, 2)
+}
+
+/// The numbers of a list of two.
+fn pair(list: &Lots) -> Option<(u16, u16)> {
+    if list.len() == 2 {
+        Some((list.get(0), list.get(1)))
+    } else {
+        None
+    }
+}
+
+/// The weights, as many as two.
+fn weights_said(job: &Job) -> [Option<(u8, u8)>; 2] {
+    [said_at(&job.weights, 0), said_at(&job.weights, 1)]
+}
+
+/// The weight at a place, if there is one.
+fn said_at(weights: &Weights, k: u8) -> Option<(u8, u8)> {
+    if k < weights.len() {
+        let weight = weights.get(k);
+        Some((weight.p, weight.q))
+    } else {
+        None
+    }
+}
+
 #[test]
 fn takes_defaults(rt: HostRuntime) -> Result<(), Fail> {
-    let job = read_job(rt.alloc(), br#"{"lots":10,"held":2,"weights":[[1,2]]}"#, 2)?;
-    assert_eq!(rt; job.lots, 10);
-    assert_eq!(rt; (job.held, job.held_most), (2, 2));
-    assert_eq!(rt; job.least.len(), 2);
-    assert_eq!(rt; job.least.get(1), 1);
-    assert_eq!(rt; job.greatest.len(), 2);
-    assert_eq!(rt; job.greatest.get(0), 10);
-    assert_eq!(rt; job.present.len(), 2);
-    assert_eq!(rt; job.present.get(0), 0);
+    let job = read(rt.alloc(), br#"{"lots":10,"held":2,"weights":[[1,2]]}"#)?;
+    assert_eq!(rt; (job.lots, job.held, job.held_most), (10, 2, 2));
+    assert_eq!(rt; pair(&job.least), Some((1, 1)));
+    assert_eq!(rt; pair(&job.greatest), Some((10, 10)));
+    assert_eq!(rt; pair(&job.present), Some((0, 0)));
     assert_eq!(rt; job.turnover, None);
-    assert_eq!(rt; job.weights.len(), 1);
-    assert_eq!(rt; job.weights.get(0), Weight { p: 1, q: 2 });
-    assert_eq!(rt; job.nodes, 1_000);
-    assert_eq!(rt; job.workers, 1);
+    assert_eq!(rt; weights_said(&job), [Some((1, 2)), None]);
+    assert_eq!(rt; (job.nodes, job.workers), (1_000, 1));
     Ok(())
 }
 
@@ -49,22 +72,14 @@ fn takes_defaults(rt: HostRuntime) -> Result<(), Fail> {
 fn takes_what_is_said(rt: HostRuntime) -> Result<(), Fail> {
     let text = br#"{"workers":16,"nodes":0,"weights":[[0,100],[7,7]],"turnover":3000000,
         "present":[[2,10000]],"limits":[[2,9,3]],"greatest":8,"least":2,"held":[1,2],"lots":9,"lots":10}"#;
-    let job = read_job(rt.alloc(), text, 2)?;
-    assert_eq!(rt; job.lots, 10);
-    assert_eq!(rt; (job.held, job.held_most), (1, 2));
-    assert_eq!(rt; job.least.len(), 2);
-    assert_eq!(rt; job.least.get(0), 2);
-    assert_eq!(rt; job.least.get(1), 9);
-    assert_eq!(rt; job.greatest.len(), 2);
-    assert_eq!(rt; job.greatest.get(0), 8);
-    assert_eq!(rt; job.greatest.get(1), 3);
-    assert_eq!(rt; job.present.len(), 2);
-    assert_eq!(rt; job.present.get(1), 10_000);
+    let job = read(rt.alloc(), text)?;
+    assert_eq!(rt; (job.lots, job.held, job.held_most), (10, 1, 2));
+    assert_eq!(rt; pair(&job.least), Some((2, 9)));
+    assert_eq!(rt; pair(&job.greatest), Some((8, 3)));
+    assert_eq!(rt; pair(&job.present), Some((0, 10_000)));
     assert_eq!(rt; job.turnover, Some(3_000_000));
-    assert_eq!(rt; job.weights.len(), 2);
-    assert_eq!(rt; job.weights.get(1), Weight { p: 7, q: 7 });
-    assert_eq!(rt; job.nodes, 0);
-    assert_eq!(rt; job.workers, 16);
+    assert_eq!(rt; weights_said(&job), [Some((0, 100)), Some((7, 7))]);
+    assert_eq!(rt; (job.nodes, job.workers), (0, 16));
     Ok(())
 }
 
@@ -101,10 +116,10 @@ fn takes_a_mebibyte_at_most(rt: HostRuntime) -> Result<(), Fail> {
 }
 
 // Each key with each kind of fault that it can have; an earlier key's fault comes first.
+
 #[test]
-fn says_what_is_wrong(rt: HostRuntime) {
-    let alloc = rt.alloc();
-    let rows = [
+fn says_what_is_wrong_with_lots_and_held(rt: HostRuntime) {
+    for (keys, wanted) in [
         (r#""lots":null"#, Kind(Key::Lots)),
         (r#""lots":100.0"#, Kind(Key::Lots)),
         (r#""lots":0"#, Range(Key::Lots)),
@@ -118,6 +133,14 @@ fn says_what_is_wrong(rt: HostRuntime) {
         (r#""held":[0,2]"#, Range(Key::Held)),
         (r#""held":[2,1]"#, Range(Key::Held)),
         (r#""held":[2,4]"#, Range(Key::Held)),
+    ] {
+        assert_eq!(rt; fault_with(rt.alloc(), keys), Some(wanted), "{keys}");
+    }
+}
+
+#[test]
+fn says_what_is_wrong_with_least_and_greatest(rt: HostRuntime) {
+    for (keys, wanted) in [
         (r#""least":null"#, Kind(Key::Least)),
         (r#""least":[]"#, Kind(Key::Least)),
         (r#""least":0"#, Range(Key::Least)),
@@ -126,6 +149,14 @@ fn says_what_is_wrong(rt: HostRuntime) {
         (r#""greatest":-1"#, Kind(Key::Greatest)),
         (r#""greatest":0"#, Range(Key::Greatest)),
         (r#""greatest":11"#, Range(Key::Greatest)),
+    ] {
+        assert_eq!(rt; fault_with(rt.alloc(), keys), Some(wanted), "{keys}");
+    }
+}
+
+#[test]
+fn says_what_is_wrong_with_limits_by_asset(rt: HostRuntime) {
+    for (keys, wanted) in [
         (r#""limits":null"#, Kind(Key::Limits)),
         (r#""limits":1"#, Kind(Key::Limits)),
         (r#""limits":[[1,1]]"#, Kind(Key::Limits)),
@@ -139,6 +170,14 @@ fn says_what_is_wrong(rt: HostRuntime) {
         (r#""limits":[[1,11,1]]"#, Range(Key::Limits)),
         (r#""limits":[[1,1,0]]"#, Range(Key::Limits)),
         (r#""limits":[[1,1,11]]"#, Range(Key::Limits)),
+    ] {
+        assert_eq!(rt; fault_with(rt.alloc(), keys), Some(wanted), "{keys}");
+    }
+}
+
+#[test]
+fn says_what_is_wrong_with_present_and_turnover(rt: HostRuntime) {
+    for (keys, wanted) in [
         (r#""present":null"#, Kind(Key::Present)),
         (r#""present":{}"#, Kind(Key::Present)),
         (r#""present":[[1,1,1]]"#, Kind(Key::Present)),
@@ -151,6 +190,14 @@ fn says_what_is_wrong(rt: HostRuntime) {
         (r#""turnover":null"#, Kind(Key::Turnover)),
         (r#""turnover":1e2"#, Kind(Key::Turnover)),
         (r#""turnover":3000001"#, Range(Key::Turnover)),
+    ] {
+        assert_eq!(rt; fault_with(rt.alloc(), keys), Some(wanted), "{keys}");
+    }
+}
+
+#[test]
+fn says_what_is_wrong_with_weights_nodes_and_workers(rt: HostRuntime) {
+    for (keys, wanted) in [
         (r#""weights":null"#, Kind(Key::Weights)),
         (r#""weights":1"#, Kind(Key::Weights)),
         (r#""weights":[]"#, Range(Key::Weights)),
@@ -166,9 +213,8 @@ fn says_what_is_wrong(rt: HostRuntime) {
         (r#""workers":0"#, Range(Key::Workers)),
         (r#""workers":17"#, Range(Key::Workers)),
         (r#""workers":17,"nodes":100001"#, Range(Key::Nodes)),
-    ];
-    for (keys, wanted) in rows {
-        assert_eq!(rt; fault_with(alloc, keys), Some(wanted), "{keys}");
+    ] {
+        assert_eq!(rt; fault_with(rt.alloc(), keys), Some(wanted), "{keys}");
     }
 }
 

@@ -13,6 +13,8 @@ mod job;
 #[cfg(test)]
 mod lines;
 #[cfg(test)]
+mod numerals;
+#[cfg(test)]
 mod objective;
 #[cfg(test)]
 mod orlib;
@@ -21,3 +23,5 @@ mod parts;
 #[cfg(test)]
 mod psd;
 pub mod roofs;
+#[cfg(test)]
+mod values;

@@ -1,6 +1,6 @@
 //! The worked rows of parts with a held range.
 
-ghost use Rattle.std.specs.Prelude.{◌≡◌, length};
+ghost use Rattle.std.specs.Prelude.{◌≡◌, ◌≤◌, length};
 
 use gap_base::Lots;
 use gap_box::Part;
@@ -16,17 +16,32 @@ fn two_free() -> Part
     Part::root(&ones, &ones)
 }
 
+/// The only list of the two assets with these numbers held, if there is just one.
+fn single(fewest: u16, most: u16) -> Option<(u16, u16)>
+    requires { fewest ≤ most }
+{
+    let list = two_free().single_within(fewest, most)?;
+    if list.len() == 2 {
+        Some((list.get(0), list.get(1)))
+    } else {
+        None
+    }
+}
+
+/// Does some list of the two assets hold so many?
+fn counts(fewest: u16, most: u16) -> bool
+    requires { fewest ≤ most }
+{
+    two_free().count_within(fewest, most)
+}
+
 #[test]
 fn a_longer_pick_is_a_second_list(rt: HostRuntime) -> Result<(), Fail> {
-    let part = two_free();
-    let both = part.single_within(2, 2).ok_or("one list holds both")?;
-    assert_eq!(rt; both.len(), 2);
-    assert_eq!(rt; both.get(0), 1);
-    assert_eq!(rt; both.get(1), 1);
-    assert!(rt; part.single_within(1, 2).is_none());
-    assert!(rt; part.single_within(1, 1).is_none());
-    assert!(rt; part.single_within(0, 0).is_some());
-    assert!(rt; part.count_within(2, 5));
-    assert!(rt; !part.count_within(3, 5));
+    assert_eq!(rt; single(2, 2), Some((1, 1)));
+    assert_eq!(rt; single(1, 2), None);
+    assert_eq!(rt; single(1, 1), None);
+    assert_eq!(rt; single(0, 0), Some((0, 0)));
+    assert!(rt; counts(2, 5));
+    assert!(rt; !counts(3, 5));
     Ok(())
 }

@@ -5,6 +5,75 @@ use gap_files::{
 use std::fs;
 use std::test::Fail;
 
+/// What is answered to a read; what is known of the files after it is of no use to a test.
+fn read<F: Files>(files: &mut F, name: &str, at: u64, buf: &mut [u8]) -> Result<usize, Trouble> {
+    files.read_at(name, at, buf)
+}
+
+/// The same for an append.
+fn append<F: Files>(files: &mut F, name: &str, bytes: &[u8]) -> Result<(), Trouble> {
+    files.append(name, bytes)
+}
+
+/// The same for a start.
+fn start<F: Files>(files: &mut F, name: &str) -> Result<(), Trouble> {
+    files.start(name)
+}
+
+/// The same for a write.
+fn write<S: Sink>(sink: &mut S, bytes: &[u8]) -> Result<(), Trouble> {
+    sink.write(bytes)
+}
+
+/// Was it done?
+fn is_done(answer: Result<(), Trouble>) -> bool {
+    matches!(answer, Ok(()))
+}
+
+/// Has it failed?
+fn has_failed(answer: Result<(), Trouble>) -> bool {
+    matches!(answer, Err(Trouble::Failed))
+}
+
+/// Has the read failed?
+fn has_failed_to_read(answer: Result<usize, Trouble>) -> bool {
+    matches!(answer, Err(Trouble::Failed))
+}
+
+/// Were so many bytes read?
+fn gives(answer: Result<usize, Trouble>, count: usize) -> bool {
+    match answer {
+        Ok(found) => found == count,
+        Err(_) => false,
+    }
+}
+
+/// Are these the bytes that are due?
+fn are(found: &[u8], due: &[u8]) -> bool {
+    found == due
+}
+
+/// Is this the content of a file?
+fn holds(files: &MemoryFiles, name: &str, bytes: &[u8]) -> bool {
+    match files.content(name) {
+        Some(found) => found == bytes,
+        None => false,
+    }
+}
+
+/// Is there such a file?
+fn has(files: &MemoryFiles, name: &str) -> bool {
+    files.content(name).is_some()
+}
+
+/// Is this the content of a steady file?
+fn holds_steadily(files: &SteadyFiles, name: &str, bytes: &[u8]) -> bool {
+    match files.content(name) {
+        Some(found) => found == bytes,
+        None => false,
+    }
+}
+
 #[test]
 fn counts_one_name_alone(rt: HostRuntime) -> Result<(), Fail> {
     let mut tally = Tally::new(rt.alloc());
@@ -24,23 +93,21 @@ fn reads_pieces_of_memory(rt: HostRuntime) -> Result<(), Fail> {
     files.put("A", b"first".as_slice())?;
     files.put("A", b"portgap".as_slice())?;
     let mut buf = [0u8; 4];
-    assert_eq!(rt; files.read_at("A", 0, &mut buf), Ok(4));
-    assert_eq!(rt; buf.as_slice(), b"port".as_slice());
-    assert_eq!(rt; files.read_at("A", 4, &mut buf), Ok(3));
-    assert_eq!(rt; buf.as_slice(), b"gapt".as_slice());
-    assert_eq!(rt; files.read_at("A", 7, &mut buf), Ok(0));
-    assert_eq!(rt;
-        files.read_at("A", 0, &mut buf),
-        Err(Trouble::Failed),
+    assert!(rt; gives(read(&mut files, "A", 0, &mut buf), 4));
+    assert!(rt; are(&buf, b"port".as_slice()));
+    assert!(rt; gives(read(&mut files, "A", 4, &mut buf), 3));
+    assert!(rt; are(&buf, b"gapt".as_slice()));
+    assert!(rt; gives(read(&mut files, "A", 7, &mut buf), 0));
+    assert!(rt;
+        has_failed_to_read(read(&mut files, "A", 0, &mut buf)),
         "the fourth call"
     );
-    assert_eq!(rt;
-        files.read_at("B", 0, &mut buf),
-        Err(Trouble::Failed),
+    assert!(rt;
+        has_failed_to_read(read(&mut files, "B", 0, &mut buf)),
         "a missing file"
     );
-    assert_eq!(rt; files.content("A"), Some(b"portgap".as_slice()));
-    assert_eq!(rt; files.content("B"), None);
+    assert!(rt; holds(&files, "A", b"portgap".as_slice()));
+    assert!(rt; !has(&files, "B"));
     Ok(())
 }
 
@@ -49,9 +116,9 @@ fn reads_a_missing_file_as_empty(rt: HostRuntime) -> Result<(), Fail> {
     let mut files = SteadyFiles::new(rt.alloc());
     files.put("A", b"gap".as_slice())?;
     let mut buf = [0u8; 4];
-    assert_eq!(rt; files.read_at("A", 1, &mut buf), Ok(2));
-    assert_eq!(rt; files.read_at("B", 0, &mut buf), Ok(0));
-    assert_eq!(rt; files.content("A"), Some(b"gap".as_slice()));
+    assert!(rt; gives(read(&mut files, "A", 1, &mut buf), 2));
+    assert!(rt; gives(read(&mut files, "B", 0, &mut buf), 0));
+    assert!(rt; holds_steadily(&files, "A", b"gap".as_slice()));
     Ok(())
 }
 
@@ -59,17 +126,16 @@ fn reads_a_missing_file_as_empty(rt: HostRuntime) -> Result<(), Fail> {
 fn writes_to_memory(rt: HostRuntime) -> Result<(), Fail> {
     let alloc = rt.alloc();
     let mut sink = MemorySink::new(alloc, vec![in alloc; 2u64]?);
-    assert_eq!(rt; sink.write(b"port".as_slice()), Ok(()));
-    assert_eq!(rt;
-        sink.write(b"lost".as_slice()),
-        Err(Trouble::Failed),
+    assert!(rt; is_done(write(&mut sink, b"port".as_slice())));
+    assert!(rt;
+        has_failed(write(&mut sink, b"lost".as_slice())),
         "the second write"
     );
-    assert_eq!(rt; sink.write(b"gap".as_slice()), Ok(()));
-    assert_eq!(rt; sink.bytes(), b"portgap".as_slice());
+    assert!(rt; is_done(write(&mut sink, b"gap".as_slice())));
+    assert!(rt; are(sink.bytes(), b"portgap".as_slice()));
     let mut steady = SteadySink::new(alloc);
-    assert_eq!(rt; steady.write(b"gap".as_slice()), Ok(()));
-    assert_eq!(rt; steady.bytes(), b"gap".as_slice());
+    assert!(rt; is_done(write(&mut steady, b"gap".as_slice())));
+    assert!(rt; are(steady.bytes(), b"gap".as_slice()));
     Ok(())
 }
 
@@ -78,14 +144,11 @@ fn reads_a_file_of_the_system(rt: HostRuntime) -> Result<(), Fail> {
     fs::write(&rt, "gap_files_test", "portgap")?;
     let mut files = RealFiles::new(&rt, rt.alloc());
     let mut buf = [0u8; 4];
-    assert_eq!(rt; files.read_at("gap_files_test", 0, &mut buf), Ok(4));
-    assert_eq!(rt; files.read_at("gap_files_test", 4, &mut buf), Ok(3));
-    assert_eq!(rt; buf.as_slice(), b"gapt".as_slice());
-    assert_eq!(rt; files.read_at("gap_files_test", 7, &mut buf), Ok(0));
-    assert_eq!(rt;
-        files.read_at("gap_files_none", 0, &mut buf),
-        Err(Trouble::Failed)
-    );
+    assert!(rt; gives(read(&mut files, "gap_files_test", 0, &mut buf), 4));
+    assert!(rt; gives(read(&mut files, "gap_files_test", 4, &mut buf), 3));
+    assert!(rt; are(&buf, b"gapt".as_slice()));
+    assert!(rt; gives(read(&mut files, "gap_files_test", 7, &mut buf), 0));
+    assert!(rt; has_failed_to_read(read(&mut files, "gap_files_none", 0, &mut buf)));
     fs::remove_file(&rt, "gap_files_test")?;
     Ok(())
 }
@@ -93,8 +156,8 @@ fn reads_a_file_of_the_system(rt: HostRuntime) -> Result<(), Fail> {
 #[test]
 fn writes_to_standard_output(rt: HostRuntime) {
     let mut sink = RealSink::new(&rt);
-    assert_eq!(rt; sink.write(b"portgap\n".as_slice()), Ok(()));
-    assert_eq!(rt; sink.write(b"".as_slice()), Ok(()));
+    assert!(rt; is_done(write(&mut sink, b"portgap\n".as_slice())));
+    assert!(rt; is_done(write(&mut sink, b"".as_slice())));
 }
 
 #[test]
@@ -102,19 +165,18 @@ fn appends_to_memory(rt: HostRuntime) -> Result<(), Fail> {
     let alloc = rt.alloc();
     let mut files = MemoryFiles::new(alloc, vec![in alloc; 3u64, 5u64]?);
     files.put("A", b"old".as_slice())?;
-    assert_eq!(rt; files.start("A"), Ok(()));
-    assert_eq!(rt; files.append("A", b"port".as_slice()), Ok(()));
-    assert_eq!(rt;
-        files.append("A", b"lost".as_slice()),
-        Err(Trouble::Failed),
+    assert!(rt; is_done(start(&mut files, "A")));
+    assert!(rt; is_done(append(&mut files, "A", b"port".as_slice())));
+    assert!(rt;
+        has_failed(append(&mut files, "A", b"lost".as_slice())),
         "the third call"
     );
-    assert_eq!(rt; files.append("A", b"gap".as_slice()), Ok(()));
-    assert_eq!(rt; files.start("B"), Err(Trouble::Failed), "the fifth call");
-    assert_eq!(rt; files.append("C", b"new".as_slice()), Ok(()));
-    assert_eq!(rt; files.content("A"), Some(b"portgap".as_slice()));
-    assert_eq!(rt; files.content("B"), None);
-    assert_eq!(rt; files.content("C"), Some(b"new".as_slice()));
+    assert!(rt; is_done(append(&mut files, "A", b"gap".as_slice())));
+    assert!(rt; has_failed(start(&mut files, "B")), "the fifth call");
+    assert!(rt; is_done(append(&mut files, "C", b"new".as_slice())));
+    assert!(rt; holds(&files, "A", b"portgap".as_slice()));
+    assert!(rt; !has(&files, "B"));
+    assert!(rt; holds(&files, "C", b"new".as_slice()));
     Ok(())
 }
 
@@ -122,24 +184,24 @@ fn appends_to_memory(rt: HostRuntime) -> Result<(), Fail> {
 fn appends_to_steady_files(rt: HostRuntime) -> Result<(), Fail> {
     let mut files = SteadyFiles::new(rt.alloc());
     files.put("A", b"old".as_slice())?;
-    assert_eq!(rt; files.append("A", b"er".as_slice()), Ok(()));
-    assert_eq!(rt; files.content("A"), Some(b"older".as_slice()));
+    assert!(rt; is_done(append(&mut files, "A", b"er".as_slice())));
+    assert!(rt; holds_steadily(&files, "A", b"older".as_slice()));
     Ok(())
 }
 
 #[test]
 fn appends_to_a_missing_steady_file(rt: HostRuntime) -> Result<(), Fail> {
     let mut files = SteadyFiles::new(rt.alloc());
-    assert_eq!(rt; files.append("B", b"gap".as_slice()), Ok(()));
-    assert_eq!(rt; files.content("B"), Some(b"gap".as_slice()));
+    assert!(rt; is_done(append(&mut files, "B", b"gap".as_slice())));
+    assert!(rt; holds_steadily(&files, "B", b"gap".as_slice()));
     Ok(())
 }
 
 #[test]
 fn starts_a_steady_file(rt: HostRuntime) -> Result<(), Fail> {
     let mut files = SteadyFiles::new(rt.alloc());
-    assert_eq!(rt; files.start("C"), Ok(()));
-    assert_eq!(rt; files.content("C"), Some(b"".as_slice()));
+    assert!(rt; is_done(start(&mut files, "C")));
+    assert!(rt; holds_steadily(&files, "C", b"".as_slice()));
     Ok(())
 }
 
@@ -147,22 +209,16 @@ fn starts_a_steady_file(rt: HostRuntime) -> Result<(), Fail> {
 fn appends_to_a_file_of_the_system(rt: HostRuntime) -> Result<(), Fail> {
     fs::write(&rt, "gap_files_append", "old")?;
     let mut files = RealFiles::new(&rt, rt.alloc());
-    assert_eq!(rt; files.start("gap_files_append"), Ok(()));
-    assert_eq!(rt;
-        files.append("gap_files_append", b"port".as_slice()),
-        Ok(())
-    );
-    assert_eq!(rt; files.append("gap_files_append", b"gap".as_slice()), Ok(()));
-    assert_eq!(rt; files.start("gap_files_none/A"), Err(Trouble::Failed));
-    assert_eq!(rt;
-        files.append("gap_files_none/A", b"gap".as_slice()),
-        Err(Trouble::Failed)
-    );
-    assert_eq!(rt; files.start(""), Ok(()));
-    assert_eq!(rt; files.append("", b"gap".as_slice()), Ok(()));
+    assert!(rt; is_done(start(&mut files, "gap_files_append")));
+    assert!(rt; is_done(append(&mut files, "gap_files_append", b"port".as_slice())));
+    assert!(rt; is_done(append(&mut files, "gap_files_append", b"gap".as_slice())));
+    assert!(rt; has_failed(start(&mut files, "gap_files_none/A")));
+    assert!(rt; has_failed(append(&mut files, "gap_files_none/A", b"gap".as_slice())));
+    assert!(rt; is_done(start(&mut files, "")));
+    assert!(rt; is_done(append(&mut files, "", b"gap".as_slice())));
     let mut buf = [0u8; 8];
-    assert_eq!(rt; files.read_at("gap_files_append", 0, &mut buf), Ok(7));
-    assert_eq!(rt; &buf[..7], b"portgap".as_slice());
+    assert!(rt; gives(read(&mut files, "gap_files_append", 0, &mut buf), 7));
+    assert!(rt; are(&buf[..7], b"portgap".as_slice()));
     fs::remove_file(&rt, "gap_files_append")?;
     Ok(())
 }

@@ -2,7 +2,7 @@
 
 use crate::outside::one_file;
 use crate::words::words_of;
-use gap_files::{MemoryFiles, MemorySink, SteadyFiles, SteadySink};
+use gap_files::{Files, MemoryFiles, MemorySink, Sink, SteadyFiles, SteadySink};
 use gap_samples::certificates::{ONE, TWO};
 use gap_top::run;
 use std::alloc::Global;
@@ -11,12 +11,22 @@ use std::test::Fail;
 /// Two assets that aren't correlated.
 const A: &str = "2\n.001 .1\n.002 .2\n1 2 0\n";
 
+/// The status of a run; what else is known of it is of no use to a test.
+fn answered<F: Files, S: Sink>(alloc: Global, words: &[String], files: &mut F, sink: &mut S) -> u8 {
+    run(alloc, words, files, sink)
+}
+
+/// Gives a file its content.
+fn put(files: &mut SteadyFiles, name: &str, bytes: &[u8]) -> Result<(), Fail> {
+    Ok(files.put(name, bytes)?)
+}
+
 /// What is answered and written for these words, where the file PORT has this text.
 fn answer_to(alloc: Global, line: &str, text: &str) -> Result<(u8, SteadySink), Fail> {
     let words = words_of(alloc, line)?;
     let mut files = one_file(alloc, "PORT", text.as_bytes())?;
     let mut sink = SteadySink::new(alloc);
-    let status = run(alloc, &words, &mut files, &mut sink);
+    let status = answered(alloc, &words, &mut files, &mut sink);
     Ok((status, sink))
 }
 
@@ -134,10 +144,10 @@ fn quick_answers_one_weight(rt: HostRuntime) -> Result<(), Fail> {
 fn solved(alloc: Global, port: &str, job: &str) -> Result<(u8, SteadySink, SteadyFiles), Fail> {
     let words = words_of(alloc, "solve PORT JOB CERT")?;
     let mut files = SteadyFiles::new(alloc);
-    files.put("PORT", port.as_bytes())?;
-    files.put("JOB", job.as_bytes())?;
+    put(&mut files, "PORT", port.as_bytes())?;
+    put(&mut files, "JOB", job.as_bytes())?;
     let mut sink = SteadySink::new(alloc);
-    let status = run(alloc, &words, &mut files, &mut sink);
+    let status = answered(alloc, &words, &mut files, &mut sink);
     Ok((status, sink, files))
 }
 
@@ -306,7 +316,7 @@ const VERDICT: &str =
 fn told(alloc: Global, files: &mut SteadyFiles, line: &str) -> Result<(u8, SteadySink), Fail> {
     let words = words_of(alloc, line)?;
     let mut sink = SteadySink::new(alloc);
-    let status = run(alloc, &words, files, &mut sink);
+    let status = answered(alloc, &words, files, &mut sink);
     Ok((status, sink))
 }
 
@@ -314,17 +324,17 @@ fn told(alloc: Global, files: &mut SteadyFiles, line: &str) -> Result<(u8, Stead
 fn check_tells_what_a_certificate_says(rt: HostRuntime) -> Result<(), Fail> {
     let alloc = rt.alloc();
     let mut files = SteadyFiles::new(alloc);
-    files.put("PORT", A.as_bytes())?;
-    files.put("ONE", ONE.as_slice())?;
-    files.put("TWO", TWO.as_slice())?;
-    files.put("CUT", &TWO[..187])?;
+    put(&mut files, "PORT", A.as_bytes())?;
+    put(&mut files, "ONE", ONE.as_slice())?;
+    put(&mut files, "TWO", TWO.as_slice())?;
+    put(&mut files, "CUT", &TWO[..187])?;
     let mut longer = [0u8; 192];
     longer[..191].copy_from_slice(&TWO);
-    files.put("LONGER", longer.as_slice())?;
+    put(&mut files, "LONGER", longer.as_slice())?;
     // the last byte of the objective
     let mut raised = TWO;
     raised[138] = 1;
-    files.put("RAISED", raised.as_slice())?;
+    put(&mut files, "RAISED", raised.as_slice())?;
     let rows = [
         ("check ONE", 0, VERDICT),
         ("check TWO", 0, VERDICT),
@@ -379,17 +389,17 @@ fn verify_compares_a_certificate(rt: HostRuntime) -> Result<(), Fail> {
         ("{", 6, "job NotJson\n"),
     ];
     for (job, status, text) in rows {
-        files.put("JOB", job.as_bytes())?;
+        put(&mut files, "JOB", job.as_bytes())?;
         let (found, sink) = told(alloc, &mut files, "verify PORT JOB CERT")?;
         assert_eq!(rt; found, status, "{job}");
         assert_eq!(rt; sink.bytes(), text.as_bytes(), "{job}");
     }
-    files.put("JOB", JOB.as_bytes())?;
-    files.put("CERT", b"GAPCERT3".as_slice())?;
+    put(&mut files, "JOB", JOB.as_bytes())?;
+    put(&mut files, "CERT", b"GAPCERT3".as_slice())?;
     let (found, sink) = told(alloc, &mut files, "verify PORT JOB CERT")?;
     assert_eq!(rt; found, 7, "a certificate of no version");
     assert_eq!(rt; sink.bytes(), b"certificate Magic 7\n".as_slice());
-    files.put("PORT", b"1".as_slice())?;
+    put(&mut files, "PORT", b"1".as_slice())?;
     let (found, sink) = told(alloc, &mut files, "verify PORT JOB CERT")?;
     assert_eq!(rt; found, 5, "a port file comes first");
     assert_eq!(rt; sink.bytes(), b"port Count 0\n".as_slice());
@@ -400,8 +410,8 @@ fn verify_compares_a_certificate(rt: HostRuntime) -> Result<(), Fail> {
 fn upgrade_writes_version_two(rt: HostRuntime) -> Result<(), Fail> {
     let alloc = rt.alloc();
     let mut files = SteadyFiles::new(alloc);
-    files.put("PORT", A.as_bytes())?;
-    files.put("ONE", ONE.as_slice())?;
+    put(&mut files, "PORT", A.as_bytes())?;
+    put(&mut files, "ONE", ONE.as_slice())?;
     for (line, name) in [("upgrade ONE NEW", "NEW"), ("upgrade NEW AGAIN", "AGAIN")] {
         let (found, sink) = told(alloc, &mut files, line)?;
         assert_eq!(rt; found, 0, "{line}");
@@ -411,7 +421,7 @@ fn upgrade_writes_version_two(rt: HostRuntime) -> Result<(), Fail> {
     // read as version 2, the greatest number held is 0
     let mut mixed = ONE;
     mixed[7] = b'2';
-    files.put("MIXED", mixed.as_slice())?;
+    put(&mut files, "MIXED", mixed.as_slice())?;
     let rows = [
         ("upgrade MIXED NEW", 7, "certificate Range 14\n"),
         ("check MIXED", 7, "certificate Range 14\n"),
@@ -450,9 +460,15 @@ fn keeps_a_refusal_whose_line_fails(rt: HostRuntime) -> Result<(), Fail> {
     let words = words_of(alloc, "--help")?;
     let mut files = MemoryFiles::new(alloc, Vec::new(alloc));
     let mut sink = MemorySink::new(alloc, vec![in alloc; 1u64]?);
-    assert_eq!(rt; run(alloc, &words, &mut files, &mut sink), 2);
+    let status = answered(alloc, &words, &mut files, &mut sink);
+    assert_eq!(rt; status, 2);
     assert_eq!(rt; sink.bytes(), b"".as_slice(), "the write failed");
     Ok(())
+}
+
+/// Gives one of the files that fail its content.
+fn hold(files: &mut MemoryFiles, name: &str, bytes: &[u8]) -> Result<(), Fail> {
+    Ok(files.put(name, bytes)?)
 }
 
 /// What is answered to these words over a port file, a job, its certificate and this in version 1, where one call on the
@@ -465,12 +481,12 @@ fn failing(
 ) -> Result<(u8, MemoryFiles, MemorySink), Fail> {
     let words = words_of(alloc, line)?;
     let mut files = MemoryFiles::new(alloc, vec![in alloc; call]?);
-    files.put("PORT", A.as_bytes())?;
-    files.put("JOB", JOB.as_bytes())?;
-    files.put("CERT", TWO.as_slice())?;
-    files.put("ONE", ONE.as_slice())?;
+    hold(&mut files, "PORT", A.as_bytes())?;
+    hold(&mut files, "JOB", JOB.as_bytes())?;
+    hold(&mut files, "CERT", TWO.as_slice())?;
+    hold(&mut files, "ONE", ONE.as_slice())?;
     let mut sink = MemorySink::new(alloc, vec![in alloc; write]?);
-    let status = run(alloc, &words, &mut files, &mut sink);
+    let status = answered(alloc, &words, &mut files, &mut sink);
     Ok((status, files, sink))
 }
 

@@ -1,13 +1,19 @@
 //! The worked certificate of two assets in version 1, upgraded over files in memory.
 
-use gap_files::{MemoryFiles, MemorySink, SteadyFiles, SteadySink};
+use gap_files::{Files, MemoryFiles, MemorySink, Sink, SteadyFiles, SteadySink};
 use gap_samples::certificates::{ONE, TWO};
 use gap_upgrade::{Stop, upgrade};
+use std::alloc::Global;
 use std::test::Fail;
 
 /// What it tells.
 const REPORT: &str =
     "weight 1/1 closed objective 800000000000000000/100000000000000000000 bound 800000000000000000/100000000000000000000\nyes\n";
+
+/// What is answered to an upgrade of OLD to NEW.
+fn upgraded<F: Files, S: Sink>(alloc: Global, files: &mut F, out: &mut S) -> Result<(), Stop> {
+    upgrade(alloc, "OLD", "NEW", files, out)
+}
 
 #[test]
 fn writes_version_two(rt: HostRuntime) -> Result<(), Fail> {
@@ -16,10 +22,7 @@ fn writes_version_two(rt: HostRuntime) -> Result<(), Fail> {
         files.put("OLD", old)?;
         files.put("NEW", b"old".as_slice())?;
         let mut out = SteadySink::new(rt.alloc());
-        assert_eq!(rt;
-            upgrade(rt.alloc(), "OLD", "NEW", &mut files, &mut out),
-            Ok(())
-        );
+        assert_eq!(rt; upgraded(rt.alloc(), &mut files, &mut out), Ok(()));
         assert_eq!(rt; files.content("NEW"), Some(TWO.as_slice()));
         assert_eq!(rt; out.bytes(), REPORT.as_bytes());
     }
@@ -44,7 +47,7 @@ fn leaves_a_front_where_a_call_fails(rt: HostRuntime) -> Result<(), Fail> {
         let mut files = MemoryFiles::new(alloc, vec![in alloc; k]?);
         files.put("OLD", ONE.as_slice())?;
         let mut out = MemorySink::new(alloc, vec![in alloc; write]?);
-        let answer = upgrade(alloc, "OLD", "NEW", &mut files, &mut out);
+        let answer = upgraded(alloc, &mut files, &mut out);
         assert_eq!(rt; answer, due, "call {k}, write {write}");
         let bytes = files.content("NEW").unwrap_or(b"".as_slice());
         assert_eq!(rt; bytes.len(), length, "call {k}, write {write}");

@@ -19,6 +19,11 @@ pub(crate) fn words_of(alloc: Global, line: &str) -> Result<Vec<String>, AllocEr
     Ok(words)
 }
 
+/// The form of the words.
+fn said(words: &[String]) -> Form<'_> {
+    form_of(words)
+}
+
 #[test]
 fn reads_the_words_of_quick(rt: HostRuntime) -> Result<(), Fail> {
     let alloc = rt.alloc();
@@ -58,10 +63,10 @@ fn reads_the_words_of_quick(rt: HostRuntime) -> Result<(), Fail> {
     ];
     for (line, form) in rows {
         let words = words_of(alloc, line)?;
-        assert_eq!(rt; form_of(&words), form, "{line}");
+        assert_eq!(rt; said(&words), form, "{line}");
     }
     let none: [String; 0] = [];
-    assert_eq!(rt; form_of(&none), Form::Faulty, "no words");
+    assert_eq!(rt; said(&none), Form::Faulty, "no words");
     Ok(())
 }
 
@@ -117,15 +122,19 @@ fn reads_the_words_of_the_other_commands(rt: HostRuntime) -> Result<(), Fail> {
     ];
     for (line, form) in rows {
         let words = words_of(alloc, line)?;
-        assert_eq!(rt; form_of(&words), form, "{line}");
+        assert_eq!(rt; said(&words), form, "{line}");
     }
     Ok(())
 }
 
+/// The line of a refusal.
+fn line_of(alloc: Global, refusal: Refusal) -> Result<String, Fail> {
+    Ok(refusal.line(alloc)?)
+}
+
 /// The line of a certificate's fault of this kind at place 5.
 fn cert_line_of(alloc: Global, kind: CertKind) -> Result<String, Fail> {
-    let refusal = Refusal::Certificate(CertFault { place: 5, kind });
-    Ok(refusal.line(alloc)?)
+    line_of(alloc, Refusal::Certificate(CertFault { place: 5, kind }))
 }
 
 #[test]
@@ -268,7 +277,7 @@ fn says_why_nothing_was_done(rt: HostRuntime) -> Result<(), Fail> {
     ];
     for (refusal, status, line) in rows {
         assert_eq!(rt; refusal.status(), status, "{line}");
-        assert_eq!(rt; refusal.line(rt.alloc())?.as_str(), line);
+        assert_eq!(rt; line_of(rt.alloc(), refusal)?.as_str(), line);
     }
     Ok(())
 }

@@ -4,6 +4,8 @@
 
 pub mod barren;
 #[cfg(test)]
+mod front;
+#[cfg(test)]
 mod queue;
 #[cfg(test)]
 mod search;

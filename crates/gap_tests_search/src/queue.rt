@@ -75,23 +75,48 @@ fn many_steps_beside_a_plain_list(rt: HostRuntime) -> Result<(), Fail> {
     Ok(())
 }
 
+/// Puts a node below 3 that isn't in the queue.
+fn put(queue: &mut Queue, node: u32, key: i128)
+    requires { length queue.old ≡ 3 }
+    ensures { length queue.new ≡ 3 }
+{
+    if node < 3 && queue.key(NodeId(node)) == None {
+        queue.put(NodeId(node), key);
+    }
+}
+
+/// Takes a node out; false where it isn't in the queue.
+fn remove(queue: &mut Queue, node: u32) -> bool
+    requires { length queue.old ≡ 3 }
+    ensures { length queue.new ≡ 3 }
+{
+    queue.remove(NodeId(node))
+}
+
+/// The node with the least entry.
+fn least(queue: &Queue) -> Option<NodeId> {
+    queue.least()
+}
+
+/// The key of a node.
+fn key(queue: &Queue, node: u32) -> Option<i128> {
+    queue.key(NodeId(node))
+}
+
 #[test]
 fn equal_keys_by_number_and_no_node_beyond_the_room(rt: HostRuntime) -> Result<(), Fail> {
     let mut queue = Queue::with_room(rt.alloc(), 3)?;
-    assert_eq!(rt; queue.least(), None);
-    queue.put(NodeId(2), -3);
-    queue.put(NodeId(0), 5);
-    queue.put(NodeId(1), -3);
-    assert_eq!(rt; queue.least(), Some(NodeId(1)));
-    assert!(rt; queue.remove(NodeId(1)));
-    assert!(rt; !queue.remove(NodeId(1)), "it is taken out already");
-    assert!(rt; !queue.remove(NodeId(3)), "the room ends before it");
-    assert_eq!(rt; queue.key(NodeId(3)), None);
-    assert_eq!(rt; queue.least(), Some(NodeId(2)));
-    assert!(rt; queue.remove(NodeId(2)));
-    assert_eq!(rt;
-        (queue.least(), queue.key(NodeId(0))),
-        (Some(NodeId(0)), Some(5))
-    );
+    assert_eq!(rt; least(&queue), None);
+    put(&mut queue, 2, -3);
+    put(&mut queue, 0, 5);
+    put(&mut queue, 1, -3);
+    assert_eq!(rt; least(&queue), Some(NodeId(1)));
+    assert!(rt; remove(&mut queue, 1));
+    assert!(rt; !remove(&mut queue, 1), "it is taken out already");
+    assert!(rt; !remove(&mut queue, 3), "the room ends before it");
+    assert_eq!(rt; key(&queue, 3), None);
+    assert_eq!(rt; least(&queue), Some(NodeId(2)));
+    assert!(rt; remove(&mut queue, 2));
+    assert_eq!(rt; (least(&queue), key(&queue, 0)), (Some(NodeId(0)), Some(5)));
     Ok(())
 }

@@ -95,6 +95,35 @@ fn settled(alloc: Global, first: u16, second: u16) -> Result<Instance, OutOfMemo
     Instance::new(alloc, two_apart(alloc)?, &job)
 }
 
+/// A weight of a market without a shift, of which `held.0` to `held.1` assets are held with `lots.0` lots, 1 to `lots.1` each.
+fn of_market(
+    alloc: Global,
+    market: Market,
+    held: (u16, u16),
+    lots: (u16, u16),
+    w: (u8, u8),
+    nodes: u32,
+    workers: u8,
+) -> Result<Option<End>, OutOfMemory>
+    requires least { 1 ≤ held.0 }
+    requires order { held.0 ≤ held.1 }
+    requires most { held.1 ≤ market.assets }
+    requires lots { lots.0 ≤ 10000 }
+    requires some { 1 ≤ lots.1 }
+    requires within { lots.1 ≤ lots.0 }
+    requires p_most { w.0 ≤ w.1 }
+    requires q_least { 1 ≤ w.1 }
+    requires q_most { w.1 ≤ 100 }
+    requires nodes { nodes ≤ 100000 }
+    requires least_workers { 1 ≤ workers }
+    requires most_workers { workers ≤ 16 }
+{
+    let n = market.n();
+    let inst = limited(alloc, market, held, lots.0, lots.1)?;
+    let shift = Shift::zero(alloc, n)?;
+    ending(alloc, &inst, &shift, w, nodes, workers)
+}
+
 /// A weight of the two assets with ten lots, by one worker.
 fn of_two(
     alloc: Global,
@@ -110,9 +139,17 @@ fn of_two(
     requires q_most { w.1 ≤ 100 }
     requires nodes { nodes ≤ 100000 }
 {
-    let inst = limited(alloc, two_apart(alloc)?, held, 10, 10)?;
+    of_market(alloc, two_apart(alloc)?, held, (10, 10), w, nodes, 1)
+}
+
+/// The weight 1/1 of the two assets whose present lots may not be turned over.
+fn of_settled(alloc: Global, first: u16, second: u16) -> Result<Option<End>, OutOfMemory>
+    requires first { first ≤ 10 }
+    requires second { second ≤ 10 }
+{
+    let inst = settled(alloc, first, second)?;
     let shift = Shift::zero(alloc, 2)?;
-    ending(alloc, &inst, &shift, w, nodes, 1)
+    ending(alloc, &inst, &shift, (1, 1), 0, 1)
 }
 
 #[test]
@@ -148,9 +185,7 @@ fn an_open_weight_of_two_assets(rt: HostRuntime) -> Result<(), Fail> {
 #[test]
 fn sixteen_workers_end_as_one(rt: HostRuntime) -> Result<(), Fail> {
     let alloc = rt.alloc();
-    let inst = limited(alloc, two_apart(alloc)?, (2, 2), 10, 10)?;
-    let shift = Shift::zero(alloc, 2)?;
-    let end = ending(alloc, &inst, &shift, (1, 2), 120, 16)?;
+    let end = of_market(alloc, two_apart(alloc)?, (2, 2), (10, 10), (1, 2), 120, 16)?;
     assert_eq!(rt; end, closed(3, 8, 2, 68));
     Ok(())
 }
@@ -159,23 +194,17 @@ fn sixteen_workers_end_as_one(rt: HostRuntime) -> Result<(), Fail> {
 fn limits_that_no_list_meets(rt: HostRuntime) -> Result<(), Fail> {
     let alloc = rt.alloc();
     let none: Option<End> = Some((0, None, None));
-    let shift = Shift::zero(alloc, 2)?;
-    let few = limited(alloc, two_apart(alloc)?, (2, 2), 1, 1)?;
-    assert_eq!(rt; ending(alloc, &few, &shift, (1, 1), 0, 1)?, none);
-    let low = limited(alloc, two_apart(alloc)?, (2, 2), 10, 4)?;
-    assert_eq!(rt; ending(alloc, &low, &shift, (1, 1), 1000, 1)?, none);
-    let nine = settled(alloc, 8, 1)?;
-    assert_eq!(rt; ending(alloc, &nine, &shift, (1, 1), 0, 1)?, none);
+    let few = of_market(alloc, two_apart(alloc)?, (2, 2), (1, 1), (1, 1), 0, 1)?;
+    assert_eq!(rt; few, none);
+    let low = of_market(alloc, two_apart(alloc)?, (2, 2), (10, 4), (1, 1), 1000, 1)?;
+    assert_eq!(rt; low, none);
+    assert_eq!(rt; of_settled(alloc, 8, 1)?, none);
     Ok(())
 }
 
 #[test]
 fn present_lots_that_stay(rt: HostRuntime) -> Result<(), Fail> {
-    let alloc = rt.alloc();
-    let shift = Shift::zero(alloc, 2)?;
-    let inst = settled(alloc, 5, 5)?;
-    let end = ending(alloc, &inst, &shift, (1, 1), 0, 1)?;
-    assert_eq!(rt; end, closed(0, 5, 5, 125));
+    assert_eq!(rt; of_settled(rt.alloc(), 5, 5)?, closed(0, 5, 5, 125));
     Ok(())
 }
 
@@ -196,67 +225,90 @@ fn level(alloc: Global, tenths: (u32, u32)) -> Result<Market, OutOfMemory>
 #[test]
 fn a_tie_of_two_equal_assets(rt: HostRuntime) -> Result<(), Fail> {
     let alloc = rt.alloc();
-    let inst = limited(alloc, level(alloc, (1, 1))?, (1, 1), 10, 10)?;
-    let shift = Shift::zero(alloc, 2)?;
-    let end = ending(alloc, &inst, &shift, (1, 1), 100, 1)?;
+    let end = of_market(
+        alloc,
+        level(alloc, (1, 1))?,
+        (1, 1),
+        (10, 10),
+        (1, 1),
+        100,
+        1,
+    )?;
     assert_eq!(rt; end, closed(1, 10, 0, 100));
     Ok(())
 }
 
-/// The weight 1/1 of an instance, begun from a list that another weight gave; None where it doesn't meet the limits.
-fn warmed(alloc: Global, inst: &Instance, x: &Lots) -> Result<Option<End>, OutOfMemory>
-    requires { inst.now.market.assets ≡ 2 }
+/// The weight 1/1 of a market of which one asset is held with ten lots, begun from a list that another weight gave; None
+/// where it doesn't meet the limits.
+fn warmed(alloc: Global, market: Market, x: &Lots) -> Result<Option<End>, OutOfMemory>
+    requires { market.assets ≡ 2 }
 {
+    let inst = limited(alloc, market, (1, 1), 10, 10)?;
     let shift = Shift::zero(alloc, 2)?;
-    if dominant(inst, &shift).is_some() || inst.keeps(x).is_some() {
+    if dominant(&inst, &shift).is_some() || inst.keeps(x).is_some() {
         return Ok(None);
     }
     let arena = Bump::new(alloc);
     let w = Weight { p: 1, q: 1 };
-    let solved = solve_one(alloc, inst, &shift, w, 10, 1, Some(x), &arena)?;
+    let solved = solve_one(alloc, &inst, &shift, w, 10, 1, Some(x), &arena)?;
     Ok(Some(end_of(&solved)))
 }
 
 #[test]
 fn a_weight_behind_another(rt: HostRuntime) -> Result<(), Fail> {
     let alloc = rt.alloc();
-    let inst = limited(alloc, level(alloc, (2, 1))?, (1, 1), 10, 10)?;
-    let shift = Shift::zero(alloc, 2)?;
-    let first = ending(alloc, &inst, &shift, (0, 1), 10, 1)?;
+    let first = of_market(
+        alloc,
+        level(alloc, (2, 1))?,
+        (1, 1),
+        (10, 10),
+        (0, 1),
+        10,
+        1,
+    )?;
     assert_eq!(rt; first, closed(0, 10, 0, -10));
-    assert_eq!(rt; warmed(alloc, &inst, &two(10, 0))?, closed(1, 0, 10, 100));
+    let second = warmed(alloc, level(alloc, (2, 1))?, &two(10, 0))?;
+    assert_eq!(rt; second, closed(1, 0, 10, 100));
     Ok(())
 }
 
-#[test]
-fn three_assets_against_one_another(rt: HostRuntime) -> Result<(), Fail> {
-    let alloc = rt.alloc();
+/// Three assets of which each falls where another rises, held with nine lots, under their least shift.
+fn of_opposed(alloc: Global) -> Result<Option<End>, OutOfMemory> {
     let market = even(alloc, 3, 100_000, -1_000_000)?;
     let inst = limited(alloc, market, (3, 3), 9, 9)?;
     let mut shift = Shift::zero(alloc, 3)?;
     shift.set_d(0, UNIT);
     shift.set_d(1, UNIT);
     shift.set_d(2, UNIT);
-    let end = ending(alloc, &inst, &shift, (1, 1), 999, 1)?;
-    assert_eq!(rt; end, closed(10, 3, 3, -27));
-    Ok(())
+    ending(alloc, &inst, &shift, (1, 1), 999, 1)
 }
 
 #[test]
-fn the_better_two_of_three_assets(rt: HostRuntime) -> Result<(), Fail> {
-    let alloc = rt.alloc();
+fn three_assets_against_one_another(rt: HostRuntime) -> Result<(), Fail> {
+    assert_eq!(rt; of_opposed(rt.alloc())?, closed(10, 3, 3, -27));
+    Ok(())
+}
+
+/// Three assets that aren't correlated, of which the last is wild.
+fn wild(alloc: Global) -> Result<Market, OutOfMemory>
+    ensures { IfOk result (λ m. m.assets ≡ 3) }
+{
     let mut market = Market::new(alloc, 3)?;
     market.set_mean(0, 1_000);
     market.set_mean(1, 2_000);
     market.set_dev(0, 100_000);
     market.set_dev(1, 200_000);
     market.set_dev(2, 1_000_000);
-    let inst = limited(alloc, market, (2, 2), 10, 10)?;
-    let shift = Shift::zero(alloc, 3)?;
+    Ok(market)
+}
+
+#[test]
+fn the_better_two_of_three_assets(rt: HostRuntime) -> Result<(), Fail> {
+    let alloc = rt.alloc();
     let bound = Some(611_718_750_000_000_000);
     let best = Some((68 * UNIT, 8, 2));
     for nodes in 0..2u32 {
-        let end = ending(alloc, &inst, &shift, (1, 2), nodes, 1)?;
+        let end = of_market(alloc, wild(alloc)?, (2, 2), (10, 10), (1, 2), nodes, 1)?;
         assert_eq!(rt; end, Some((nodes, best, bound)));
     }
     Ok(())

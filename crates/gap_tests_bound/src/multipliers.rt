@@ -3,12 +3,12 @@
 ghost use Rattle.std.specs.Prelude.{◌≡◌, ◌+◌, ◌≤◌, ◌∷◌, [], pos, unsigned_abs, IsTrue, IfOk, IfSome, IsSome};
 ghost use Rattle.gap_model.specs.Leaves.{IsPoint, AreMultipliers};
 ghost use Rattle.gap_tangent.specs.Seen.{setting_of};
+ghost use Rattle.gap_leaf.specs.Finding.{IsWitness};
 
-use super::*;
-use crate::placing::tangent_leaf;
 use bumpalo::Bump;
-use gap_base::{Eighths, Job, Market, OutOfMemory, Weight, Weights};
+use gap_base::{Eighths, Job, Market, OutOfMemory, Weight, Weights, Witness};
 use gap_instance::Instance;
+use gap_leaf::{best_alpha, best_tau, witness_for};
 use gap_model::{Entry, Leaf, NodeBound};
 use gap_psd::{Shift, dominant};
 use gap_samples::{three, two_assets};
@@ -203,21 +203,45 @@ fn has_entries(leaf: &Leaf<'_>, first: Entry, second: Entry) -> bool {
     }
 }
 
+/// The leaf of the root from a witness.
+fn root_leaf<'a>(
+    mv: &MeanVariance<'_>,
+    hint: &Witness,
+    arena: &'a Bump,
+) -> Result<Leaf<'a>, OutOfMemory>
+    requires { IsWitness (setting_of mv.now) hint.now }
+{
+    witness_for(mv, &mv.root(), hint, arena)
+}
+
 #[test]
 fn a_placed_leaf_stays_as_it_is(rt: HostRuntime) -> Result<(), Fail> {
+    let inst = two_assets(rt.alloc(), 2)?;
+    let shift = Shift::zero(rt.alloc(), 2)?;
+    let row = dominant(&inst, &shift);
+    assert!(rt; row.is_none());
+    let mv = MeanVariance::new(&inst, &shift, Weight { p: 1, q: 2 });
+    let mut y = Eighths::zeros(2);
+    y.set(0, 64);
+    y.set(1, 16);
+    let hint = Witness {
+        y,
+        alpha: 0,
+        tau: 0,
+    };
     let arena = Bump::new(rt.alloc());
-    let leaf = tangent_leaf(&point(5, 0, 7), 11, 0, &arena)?;
-    for k in 0..1000u32 {
-        let other = tangent_leaf(&point(k, k + 1, 3), 0, 0, &arena)?;
+    let leaf = root_leaf(&mv, &hint, &arena)?;
+    for _ in 0..1000u32 {
+        let other = root_leaf(&mv, &hint, &arena)?;
         assert!(rt; matches!(other, Leaf::Tangent { .. }));
     }
     let first = Entry {
         asset: 0,
-        eighths: 5,
+        eighths: 63,
     };
     let second = Entry {
-        asset: 2,
-        eighths: 7,
+        asset: 1,
+        eighths: 17,
     };
     assert!(rt; has_entries(&leaf, first, second));
     Ok(())

@@ -1,4 +1,6 @@
-use super::*;
+//! Rows of decimal numerals: the value of each in millionths, or its first fault.
+
+use gap_base::{NumeralFault, Rounded, read_numeral};
 
 fn exact(value: i128) -> Result<Rounded, NumeralFault> {
     Ok(Rounded { value, exact: true })
