@@ -12,6 +12,8 @@ mod prices;
 #[cfg(test)]
 mod start;
 #[cfg(test)]
+mod tables;
+#[cfg(test)]
 mod tangent;
 #[cfg(test)]
 mod witness;

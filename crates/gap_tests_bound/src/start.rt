@@ -174,17 +174,34 @@ fn numbers(inst: &Instance, part: &Part, a: u32, b: u32, c: u32) -> (u16, u16, u
     }
 }
 
+/// The same where `fewest` to `most` of three assets are held, without a turnover limit; 0, 0 and 0 for another range than
+/// one within 1 to 3.
+fn numbers_of_some(
+    alloc: Global,
+    fewest: u16,
+    most: u16,
+    y: [u32; 3],
+) -> Result<(u16, u16, u16), OutOfMemory> {
+    if fewest < 1 || most < fewest || 3 < most {
+        return Ok((0, 0, 0));
+    }
+    let inst = alike(alloc, fewest, most, (0, 0, 0), None)?;
+    Ok(numbers(&inst, &whole(), y[0], y[1], y[2]))
+}
+
 #[test]
 fn the_assets_with_the_most_eighths_are_held(rt: HostRuntime) -> Result<(), Fail> {
-    let none = (0, 0, 0);
-    let two = alike(rt.alloc(), 2, 2, none, None)?;
-    assert_eq!(rt; numbers(&two, &whole(), 8, 40, 24), (0, 5, 5));
-    assert_eq!(rt; numbers(&two, &whole(), 16, 24, 16), (5, 5, 0));
-    let some = alike(rt.alloc(), 1, 3, none, None)?;
-    assert_eq!(rt; numbers(&some, &whole(), 8, 40, 24), (3, 4, 3));
-    assert_eq!(rt; numbers(&some, &whole(), 8, 40, 0), (5, 5, 0));
-    let several = alike(rt.alloc(), 2, 3, none, None)?;
-    assert_eq!(rt; numbers(&several, &whole(), 0, 40, 0), (5, 5, 0));
+    for (fewest, most, y, due) in [
+        (2, 2, [8, 40, 24], (0, 5, 5)),
+        (2, 2, [16, 24, 16], (5, 5, 0)),
+        (1, 3, [8, 40, 24], (3, 4, 3)),
+        (1, 3, [8, 40, 0], (5, 5, 0)),
+        (2, 3, [0, 40, 0], (5, 5, 0)),
+        // one asset has at most 9 lots
+        (1, 3, [0, 40, 0], (0, 0, 0)),
+    ] {
+        assert_eq!(rt; numbers_of_some(rt.alloc(), fewest, most, y)?, due, "{y:?}");
+    }
     Ok(())
 }
 
@@ -198,22 +215,31 @@ fn the_cells_of_the_part_come_first(rt: HostRuntime) -> Result<(), Fail> {
     Ok(())
 }
 
-#[test]
-fn a_turnover_limit_leads_to_the_present_lots(rt: HostRuntime) -> Result<(), Fail> {
-    let nearer = alike(rt.alloc(), 2, 2, (0, 9, 1), Some(6))?;
-    assert_eq!(rt; numbers(&nearer, &whole(), 0, 32, 32), (0, 6, 4));
-    let below = alike(rt.alloc(), 2, 2, (0, 9, 1), Some(5))?;
-    assert_eq!(rt; numbers(&below, &whole(), 0, 32, 32), (0, 0, 0));
-    let fewer = alike(rt.alloc(), 2, 2, (0, 8, 2), Some(0))?;
-    assert_eq!(rt; numbers(&fewer, &whole(), 0, 64, 32), (0, 8, 2));
-    Ok(())
+/// The same where two of three assets are held, with a turnover limit from these present lots.
+fn numbers_within(
+    alloc: Global,
+    present: [u8; 3],
+    turnover: u8,
+    y: [u32; 3],
+) -> Result<(u16, u16, u16), OutOfMemory> {
+    let lots = (present[0].into(), present[1].into(), present[2].into());
+    let inst = alike(alloc, 2, 2, lots, Some(turnover.into()))?;
+    Ok(numbers(&inst, &whole(), y[0], y[1], y[2]))
 }
 
 #[test]
-fn a_list_that_breaks_a_limit_is_none(rt: HostRuntime) -> Result<(), Fail> {
-    let inst = alike(rt.alloc(), 1, 3, (0, 0, 0), None)?;
-    assert_eq!(rt; numbers(&inst, &whole(), 0, 40, 0), (0, 0, 0));
-    let still = alike(rt.alloc(), 2, 2, (9, 1, 0), Some(0))?;
-    assert_eq!(rt; numbers(&still, &whole(), 0, 40, 24), (0, 0, 0));
+fn a_turnover_limit_leads_to_the_present_lots(rt: HostRuntime) -> Result<(), Fail> {
+    for (present, turnover, y, due) in [
+        ([0, 9, 1], 6, [0, 32, 32], (0, 6, 4)),
+        ([0, 9, 1], 5, [0, 32, 32], (0, 0, 0)),
+        ([0, 8, 2], 0, [0, 64, 32], (0, 8, 2)),
+        ([9, 1, 0], 0, [0, 40, 24], (0, 0, 0)),
+    ] {
+        assert_eq!(rt;
+            numbers_within(rt.alloc(), present, turnover, y)?,
+            due,
+            "{y:?}"
+        );
+    }
     Ok(())
 }

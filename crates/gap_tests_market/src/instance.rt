@@ -95,19 +95,24 @@ fn has_none(inst: &Instance) -> bool {
     inst.order(Weight { p: 1, q: 2 }, By::Key).is_empty()
 }
 
-/// The assets of an order by the weight p/2.
-fn ordered(inst: &Instance, p: u8, by: By) -> (u16, u16, u16) {
-    assets(&inst.order(Weight { p, q: 2 }, by))
+/// The assets of an order by key, for the weight p/2.
+fn by_key(inst: &Instance, p: u8) -> (u16, u16, u16) {
+    assets(&inst.order(Weight { p, q: 2 }, By::Key))
+}
+
+/// The assets of the orders by key, by least and by greatest, for the weight 1/2.
+fn orders(inst: &Instance) -> [(u16, u16, u16); 3] {
+    let w = Weight { p: 1, q: 2 };
+    let least = assets(&inst.order(w, By::Least));
+    [by_key(inst, 1), least, assets(&inst.order(w, By::Greatest))]
 }
 
 #[test]
 fn orders_by_key_by_least_and_by_greatest(rt: HostRuntime) -> Result<(), Fail> {
     let inst = instance(rt.alloc(), 2, None)?;
-    assert_eq!(rt; ordered(&inst, 1, By::Key), (0, 1, 2));
-    assert_eq!(rt; ordered(&inst, 1, By::Least), (1, 2, 0));
-    assert_eq!(rt; ordered(&inst, 1, By::Greatest), (0, 1, 2));
+    assert_eq!(rt; orders(&inst), [(0, 1, 2), (1, 2, 0), (0, 1, 2)]);
     let turning = instance(rt.alloc(), 2, Some(9))?;
-    assert_eq!(rt; ordered(&turning, 1, By::Key), (0, 2, 1));
+    assert_eq!(rt; by_key(&turning, 1), (0, 2, 1));
     assert!(rt; !has_none(&turning));
     Ok(())
 }
@@ -140,23 +145,21 @@ fn tied(alloc: Global, second: u16, turnover: Option<u32>) -> Result<Instance, O
 #[test]
 fn ties_of_an_order_go_to_the_lower_asset(rt: HostRuntime) -> Result<(), Fail> {
     let inst = tied(rt.alloc(), 6, None)?;
-    assert_eq!(rt; ordered(&inst, 1, By::Key), (2, 0, 1));
-    assert_eq!(rt; ordered(&inst, 1, By::Least), (0, 1, 2));
-    assert_eq!(rt; ordered(&inst, 1, By::Greatest), (1, 2, 0));
+    assert_eq!(rt; orders(&inst), [(2, 0, 1), (0, 1, 2), (1, 2, 0)]);
     let turning = tied(rt.alloc(), 6, Some(9))?;
-    assert_eq!(rt; ordered(&turning, 1, By::Key), (0, 1, 2));
     // for risk alone the means don't count
-    assert_eq!(rt; ordered(&inst, 2, By::Key), (0, 1, 2));
+    assert_eq!(rt;
+        [by_key(&turning, 1), by_key(&inst, 2)],
+        [(0, 1, 2), (0, 1, 2)]
+    );
     Ok(())
 }
 
 #[test]
 fn an_order_leaves_out_what_cannot_be_held(rt: HostRuntime) -> Result<(), Fail> {
     let inst = tied(rt.alloc(), 1, None)?;
-    assert_eq!(rt; ordered(&inst, 1, By::Key), (2, 0, 9));
-    assert_eq!(rt; ordered(&inst, 1, By::Least), (0, 2, 9));
-    assert_eq!(rt; ordered(&inst, 1, By::Greatest), (2, 0, 9));
+    assert_eq!(rt; orders(&inst), [(2, 0, 9), (0, 2, 9), (2, 0, 9)]);
     let turning = tied(rt.alloc(), 1, Some(9))?;
-    assert_eq!(rt; ordered(&turning, 1, By::Key), (0, 2, 9));
+    assert_eq!(rt; by_key(&turning, 1), (0, 2, 9));
     Ok(())
 }

@@ -40,6 +40,23 @@ fn pair(list: &Lots) -> Option<(u16, u16)> {
     }
 }
 
+/// The least and the greatest numbers of lots of two assets, and the lots at present.
+fn lists(job: &Job) -> [Option<(u16, u16)>; 3] {
+    [pair(&job.least), pair(&job.greatest), pair(&job.present)]
+}
+
+/// The lots, how many assets are held at least and at most, the turnover limit, the nodes and the workers.
+fn numbers(job: &Job) -> (u16, u16, u16, Option<u32>, u32, u8) {
+    (
+        job.lots,
+        job.held,
+        job.held_most,
+        job.turnover,
+        job.nodes,
+        job.workers,
+    )
+}
+
 /// The weights, as many as two.
 fn weights_said(job: &Job) -> [Option<(u8, u8)>; 2] {
     [said_at(&job.weights, 0), said_at(&job.weights, 1)]
@@ -58,13 +75,10 @@ fn said_at(weights: &Weights, k: u8) -> Option<(u8, u8)> {
 #[test]
 fn takes_defaults(rt: HostRuntime) -> Result<(), Fail> {
     let job = read(rt.alloc(), br#"{"lots":10,"held":2,"weights":[[1,2]]}"#)?;
-    assert_eq!(rt; (job.lots, job.held, job.held_most), (10, 2, 2));
-    assert_eq!(rt; pair(&job.least), Some((1, 1)));
-    assert_eq!(rt; pair(&job.greatest), Some((10, 10)));
-    assert_eq!(rt; pair(&job.present), Some((0, 0)));
-    assert_eq!(rt; job.turnover, None);
+    assert_eq!(rt; numbers(&job), (10, 2, 2, None, 1_000, 1));
+    let due = [Some((1, 1)), Some((10, 10)), Some((0, 0))];
+    assert_eq!(rt; lists(&job), due);
     assert_eq!(rt; weights_said(&job), [Some((1, 2)), None]);
-    assert_eq!(rt; (job.nodes, job.workers), (1_000, 1));
     Ok(())
 }
 
@@ -73,13 +87,11 @@ fn takes_what_is_said(rt: HostRuntime) -> Result<(), Fail> {
     let text = br#"{"workers":16,"nodes":0,"weights":[[0,100],[7,7]],"turnover":3000000,
         "present":[[2,10000]],"limits":[[2,9,3]],"greatest":8,"least":2,"held":[1,2],"lots":9,"lots":10}"#;
     let job = read(rt.alloc(), text)?;
-    assert_eq!(rt; (job.lots, job.held, job.held_most), (10, 1, 2));
-    assert_eq!(rt; pair(&job.least), Some((2, 9)));
-    assert_eq!(rt; pair(&job.greatest), Some((8, 3)));
-    assert_eq!(rt; pair(&job.present), Some((0, 10_000)));
-    assert_eq!(rt; job.turnover, Some(3_000_000));
+    let due = (10, 1, 2, Some(3_000_000), 0, 16);
+    assert_eq!(rt; numbers(&job), due);
+    let due = [Some((2, 9)), Some((8, 3)), Some((0, 10_000))];
+    assert_eq!(rt; lists(&job), due);
     assert_eq!(rt; weights_said(&job), [Some((0, 100)), Some((7, 7))]);
-    assert_eq!(rt; (job.nodes, job.workers), (0, 16));
     Ok(())
 }
 

@@ -74,6 +74,20 @@ fn first_faults(rt: HostRuntime) {
     }
 }
 
+/// The mean of the first asset, the deviation of the second and their correlation, and how many numbers were rounded; none
+/// where there are more than two assets or fewer.
+fn said(market: &Market) -> Option<(i32, u32, i32, u32)> {
+    if market.n() != 2 {
+        return None;
+    }
+    Some((
+        market.mean(0),
+        market.dev(1),
+        market.rho(1, 0),
+        market.rounded(),
+    ))
+}
+
 #[test]
 fn markets(rt: HostRuntime) -> Result<(), Fail> {
     let rows: [(&str, i32, u32); 5] = [
@@ -94,13 +108,8 @@ fn markets(rt: HostRuntime) -> Result<(), Fail> {
     for (text, rho, rounded) in rows {
         for size in [1usize, 7, 100] {
             let market = read(rt.alloc(), text.as_bytes(), size)?;
-            assert_eq!(rt; market.n(), 2, "at {text}");
-            if market.n() == 2 {
-                assert_eq!(rt; market.mean(0), 1000, "at {text}");
-                assert_eq!(rt; market.dev(1), 200_000, "at {text}");
-                assert_eq!(rt; market.rho(1, 0), rho, "at {text}");
-                assert_eq!(rt; market.rounded(), rounded, "at {text}");
-            }
+            let due = (1000, 200_000, rho, rounded);
+            assert_eq!(rt; said(&market), Some(due), "at {text}");
         }
     }
     Ok(())

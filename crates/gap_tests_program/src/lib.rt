@@ -1,4 +1,4 @@
-//! The tests of files, words, `upgrade` and the public call. They call
+//! The tests of files, words and the public call, `upgrade` among its commands. They call
 //! what is public alone, and stand apart so that no layer is proved twice.
 #![tactic(auto)]
 
@@ -9,7 +9,5 @@ pub mod outside;
 mod top;
 #[cfg(test)]
 mod trace;
-#[cfg(test)]
-mod upgrade;
 #[cfg(test)]
 mod words;

@@ -13,3 +13,5 @@ mod search;
 mod solve;
 #[cfg(test)]
 mod tree;
+#[cfg(test)]
+mod trials;

@@ -8,6 +8,3 @@ mod small;
 
 pub use guide::{Listing, all_points, leaf_for};
 pub use small::Small;
-
-#[cfg(test)]
-mod tests;

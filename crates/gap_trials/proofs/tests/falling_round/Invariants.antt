@@ -1,8 +1,0 @@
-use Rattle.std.proofs.Common.{◌≡◌}
-use Rattle.gap_trials.proofs.tests.falling_round.Given as goal
-
-abbrev pub invariant-loop-behind : goal.invariant-loop-behind
-invariant-loop-behind l = l.search.workers ≡ 16
-
-abbrev pub invariant-loop-behind-2 : goal.invariant-loop-behind-2
-invariant-loop-behind-2 l = l.search.workers ≡ 16
