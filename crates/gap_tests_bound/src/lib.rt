@@ -1,4 +1,4 @@
-//! The tests of the bound, of the points that it is taken at, and of starts. They call
+//! The tests of the bound, of the points that it is taken at, and of starts, and tables by listing. They call
 //! what is public alone, and stand apart so that no layer is proved twice.
 #![tactic(auto)]
 

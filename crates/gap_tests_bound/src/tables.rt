@@ -252,10 +252,11 @@ fn objectives_of_neighbours(rt: HostRuntime) -> Result<(), Fail> {
     Ok(())
 }
 
-/// Does an asset stand before another by rising numbers, the lower asset of equal ones first?
+/// Does an asset stand before another by rising numbers, the lower asset of equal ones first? All stand before one that
+/// is none of the three.
 fn is_before(numbers: &[i32; 3], j: u16, i: u16) -> bool {
     let (Some(one), Some(two)) = (numbers.get(usize::from(j)), numbers.get(usize::from(i))) else {
-        return false;
+        return true;
     };
     (*one, j) < (*two, i)
 }
