@@ -22,3 +22,11 @@ sum_back a b m ha hb k =
     let eb = back_of b m hb (omega arith) in
     let es = back_of (a +ℤ b) (2 * m) (omega (arith, ints)) k in
     rw ea (rw eb es)
+
+-- the difference of two numbers
+pub difference_back : (a b : ℤ) (m : ℕ) → unsigned_abs a ≤ m → unsigned_abs b ≤ m → 2 * m < 2 ^ 127 → to_z w128 (of_z w128 (to_z w128 (of_z w128 a) -ℤ to_z w128 (of_z w128 b))) ≡ a -ℤ b
+difference_back a b m ha hb k =
+    let ea = back_of a m ha (omega arith) in
+    let eb = back_of b m hb (omega arith) in
+    let es = back_of (a -ℤ b) (2 * m) (omega (arith, ints)) k in
+    rw ea (rw eb es)

@@ -19,8 +19,8 @@ use Rattle.gap_price.specs.declared.costs.Varied.TheVariants.{Lots, Distance}
 use Rattle.gap_price.specs.declared.offer.Offer.{Offer}
 use Rattle.gap_price.specs.Costs.{asset_cost}
 use Rattle.gap_price.specs.Curves.{CurveValue, cost_of, weight_of, price_by, lot_under, distance_under, varied_price, IsLeastAt}
-use Rattle.gap_price.specs.Offers.{cost_by, priced_of, weighed_of, at_lots, cheaper, cheapest, offer_with, offer_held, least_offer, none_offer, held_value, held_weight, out_value, out_weight, AreCosts, AreTabled}
-use Rattle.gap_price.proofs.OneAsset.{cost_least}
+use Rattle.gap_price.specs.Offers.{cost_by, priced_of, weighed_of, at_lots, cheaper, cheapest, offer_with, offer_held, least_offer, none_offer, held_value, held_weight, out_value, out_weight, AreCosts, AreTabled, IsBare, end_lots, end_between, end_offer, ends_of}
+use Rattle.gap_price.proofs.OneAsset.{cost_least, bare_none, end_least}
 use Rattle.gap_price.proofs.Tables.{table_more}
 use Rattle.gap_price.proofs.CurveLaws.{IsBest, IsBestOf, least_of_ways, value_within, slope_within}
 
@@ -220,6 +220,55 @@ held_tells k m i j o e p = (ap (held_value k m) e ∙ ap (λ (x : Offer). x.valu
 
 pub out_tells : (k : CurveValue) (m : ℤ) (i j : ℕ) (o : Offer) → j ≡ i → o ≡ none_offer k m i → (out_value k m j ≡ o.value) × (out_weight k m j ≡ o.weight)
 out_tells k m i j o e p = (ap (out_value k m) e ∙ ap (λ (x : Offer). x.value) (sym p), ap (out_weight k m) e ∙ ap (λ (x : Offer). x.weight) (sym p))
+
+-- ---- where distance has no price the better end is least
+bare_priced : (k : CurveValue) (m : ℤ) (i v : ℕ) → IsBare k → priced_of k m i v ≡ asset_cost (line_of k m i k.varied) (at k.costs.bends i) (pos 0) (lots_at k.costs.present i) (pos v)
+bare_priced k m i v bare = priced_is k m i k.varied (pos v) ∙ ap (λ z. asset_cost (line_of k m i k.varied) (at k.costs.bends i) z (lots_at k.costs.present i) (pos v)) (ap (λ x. distance_under x k.costs m) bare.by_lots ∙ bare.free)
+
+end_among : (t : Bool) (l u : ℕ) → l ≤ u → (l ≤ (if t then u else l)) × ((if t then u else l) ≤ u)
+end_among true l u h = (h, omega arith)
+end_among false l u h = (omega arith, h)
+
+end_best : (k : CurveValue) (m : ℤ) (i l u : ℕ) → IsBare k → pos 0 ≤ℤ at k.costs.bends i → l ≤ u → IsBest (priced_of k m i) (weighed_of k i) l u (end_between k m i l u).value (end_between k m i l u).weight
+end_best k m i l u bare s h =
+    let line = line_of k m i k.varied in
+    let bend = at k.costs.bends i in
+    let e = end_lots line bend l u in
+    let a = end_among (int_lt line (bend *ℤ pos (l + u))) l u h in
+    record {
+      reached = (e, a.0, a.1, refl, ap (λ x. weight_of x (lots_at k.costs.present i) (pos e)) bare.by_lots);
+      below = λ v x y. le_by _ _ _ _ (bare_priced k m i e bare) (bare_priced k m i v bare) (end_least line bend (lots_at k.costs.present i) l u v s x y);
+    }
+  where
+    le_by : (x y a b : ℤ) → x ≡ a → y ≡ b → a ≤ℤ b → x ≤ℤ y
+    le_by x y a b e f h = omega (arith, ints)
+
+end_best_of : (k : CurveValue) (m : ℤ) (i : ℕ) (cell : Cell) → IsBare k → IsCell cell → pos 0 ≤ℤ at k.costs.bends i → IsBestOf cell (priced_of k m i) (weighed_of k i) (end_offer k m i cell).value (end_offer k m i cell).weight
+end_best_of k m i Out bare v s = tt
+end_best_of k m i (Held l u) bare v s = end_best k m i l u bare s v.1
+end_best_of k m i (Free l u) bare v s = end_best k m i l u bare s v.1
+
+pub least_by_ends : (k : CurveValue) (m : ℤ) (value slope : ℤ) → IsBare k → AreCells k.cells → AreCosts k.costs (length k.cells) → IsLeastWay k.cells (ends_of k m).held_cost (ends_of k m).out_cost (ends_of k m).held_slope (ends_of k m).out_slope k.fewest k.most value slope → IsLeastAt k m value slope
+least_by_ends k m value slope bare valid c least = least_of_ways k m (ends_of k m).held_cost (ends_of k m).out_cost (ends_of k m).held_slope (ends_of k m).out_slope value slope valid (λ i l. end_best_of k m i (cell_at k.cells i) bare (valid.each i) (c.bends_signs i l)) (λ i l. sym (bare_priced k m i 0 bare ∙ bare_none (line_of k m i k.varied) (at k.costs.bends i) (lots_at k.costs.present i))) (λ i l. sym (ap (λ x. weight_of x (lots_at k.costs.present i) (pos 0)) bare.by_lots)) least
+
+-- what the better end of an asset with these prices costs
+end_same : (f g : ℕ → ℤ) (x y a b : ℤ) (l u : ℕ) → x ≡ y → a ≡ b → ((v : ℕ) → f v ≡ g v) → at_lots f (end_lots x a l u) ≡ at_lots g (end_lots y b l u)
+end_same f g x y a b l u d e same = ap (λ z. at_lots f (end_lots z a l u)) d ∙ ap (λ z. at_lots f (end_lots y z l u)) e ∙ ap (λ z. record { lots = end_lots y b l u; cost = z }) (same (end_lots y b l u))
+
+pub end_is : (k : CurveValue) (m : ℤ) (i l u : ℕ) (a : AssetCost) (x : Candidate) (o : Offer) → a.linear ≡ at k.costs.linear i +ℤ lot_under k.varied k.costs m → a.bend ≡ at k.costs.bends i → ((v : ℕ) → cost_by a v ≡ priced_of k m i v) → x ≡ at_lots (cost_by a) (end_lots a.linear a.bend l u) → o ≡ offer_with Lots 0 x → o ≡ end_between k m i l u
+end_is k m i l u a x o d e same p q = q ∙ ap (offer_with Lots 0) (p ∙ end_same (cost_by a) (priced_of k m i) a.linear (line_of k m i k.varied) a.bend (at k.costs.bends i) l u d e same)
+
+-- what the better end at a place tells of the ways
+pub end_tells : (k : CurveValue) (m : ℤ) (i j : ℕ) (o : Offer) → j ≡ i → o ≡ end_offer k m i (cell_at k.cells i) → ((ends_of k m).held_cost j ≡ o.value) × ((ends_of k m).held_slope j ≡ o.weight)
+end_tells k m i j o e p = (ap (ends_of k m).held_cost e ∙ ap (λ (x : Offer). x.value) (sym p), ap (ends_of k m).held_slope e ∙ ap (λ (x : Offer). x.weight) (sym p))
+
+-- what an end costs and weighs is small
+pub end_sizes : (k : CurveValue) (m : ℤ) (i l u : ℕ) → AreCosts k.costs (length k.cells) → i < length k.cells → unsigned_abs (varied_price k +ℤ m) ≤ 1001000000000000000000000000000 → l ≤ u → u ≤ 10000 → (unsigned_abs (end_between k m i l u).value ≤ 30000000000000000000000000000000000) × (unsigned_abs (end_between k m i l u).weight ≤ 20000)
+end_sizes k m i l u c h p order most =
+    let e = end_lots (line_of k m i k.varied) (at k.costs.bends i) l u in
+    let a = (end_among (int_lt (line_of k m i k.varied) (at k.costs.bends i *ℤ pos (l + u))) l u order).1 in
+    let s = priced_small k m i (length k.cells) e c h p (omega arith) in
+    (omega arith, omega (arith, ints))
 
 -- ---- what a whole curve says
 pub tabled_none : (k : CurveValue) (m : ℤ) (held out held_weights out_weights : List ℤ) → AreTabled k m 0 held out held_weights out_weights

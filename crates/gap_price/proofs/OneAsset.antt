@@ -1,11 +1,12 @@
 -- The least cost of one asset over a range is at an end of the range, or at the present lots between them, since the
 -- square enters with a negative sign.
 
-use Rattle.std.proofs.Common.{◌≡◌, ℕ, ◌<◌, ◌≤◌, ℤ, pos, ◌+ℤ◌, ◌-ℤ◌, ◌*ℤ◌, neg_ℤ, ◌≤ℤ◌, ◌<ℤ◌, refl, ap, ◌∙◌, arith}
+use Rattle.std.proofs.Common.{◌≡◌, ℕ, ◌+◌, ◌<◌, ◌≤◌, Bool, true, false, if◌then◌else◌, ℤ, pos, ◌+ℤ◌, ◌-ℤ◌, ◌*ℤ◌, neg_ℤ, ◌≤ℤ◌, ◌<ℤ◌, int_lt, refl, ap, ◌∙◌, ◌⊎◌, inl, inr, arith}
 use Rattle.std.proofs.lemmas.Int.{ints, clamps, by_lt_z}
 use Rattle.std.specs.Int.{int_min}
 use Rattle.gap_base.specs.Sums.{abs_z}
 use Rattle.gap_base.proofs.Ring.{expand, linear, product_not_negative, scaled_le}
+use Rattle.gap_relax.proofs.Order.{lt_tells}
 use Rattle.gap_price.specs.Costs.{asset_cost, IsLeastBetween}
 
 -- ---- a line less a square
@@ -92,6 +93,38 @@ cost_least c d t b l u v r s h k p q m =
     (λ (bv : b ≤ℤ v). piece_above c d t b b v u r s (omega (arith, ints)) bv k (m lb bu) q))
     (λ (ub : u ≤ℤ b). piece_below c d t b l v u r s ub h k p q))
     (λ (bl : b ≤ℤ l). piece_above c d t b l v u r s bl h k p q)
+
+-- ---- where distance has no price the better end is least
+no_price : (x y : ℤ) → x +ℤ (pos 0 *ℤ y) ≡ x
+no_price x y = simp expand (omega (arith, linear))
+
+pub bare_is : (c d b v : ℤ) → asset_cost c d (pos 0) b v ≡ bow c d v
+bare_is c d b v = no_price (bow c d v) (abs_z (v -ℤ b))
+
+bow_none : (c d : ℤ) → bow c d (pos 0) ≡ pos 0
+bow_none c d = omega (arith, linear)
+
+pub bare_none : (c d b : ℤ) → asset_cost c d (pos 0) b (pos 0) ≡ pos 0
+bare_none c d b = bare_is c d b (pos 0) ∙ bow_none c d
+
+end_low : (c d : ℤ) (l u v : ℕ) (t : Bool) → ((t ≡ true) × (c <ℤ (d *ℤ pos (l + u)))) ⊎ ((t ≡ false) × ((d *ℤ pos (l + u)) ≤ℤ c)) → pos 0 ≤ℤ d → l ≤ v → v ≤ u → bow c d (pos (if t then u else l)) ≤ℤ bow c d (pos v)
+end_low c d l u v true (inl p) s h k =
+    let q = above_end c d (pos l) (pos u) (omega (arith, ints)) (met c (d *ℤ pos (l + u)) (d *ℤ (pos u +ℤ pos l)) p.1 (ap (λ z. d *ℤ z) (omega (arith, ints)))) in
+    bow_least c d (pos l) (pos v) (pos u) (bow c d (pos u)) s (omega (arith, ints)) (omega (arith, ints)) q (omega (arith, ints))
+  where
+    met : (c x y : ℤ) → c <ℤ x → x ≡ y → c ≤ℤ y
+    met c x y h e = omega (arith, ints)
+end_low c d l u v false (inr p) s h k =
+    let q = above_start c d (pos l) (pos u) (omega (arith, ints)) (met c (d *ℤ pos (l + u)) (d *ℤ (pos u +ℤ pos l)) p.1 (ap (λ z. d *ℤ z) (omega (arith, ints)))) in
+    bow_least c d (pos l) (pos v) (pos u) (bow c d (pos l)) s (omega (arith, ints)) (omega (arith, ints)) (omega (arith, ints)) q
+  where
+    met : (c x y : ℤ) → x ≤ℤ c → x ≡ y → y ≤ℤ c
+    met c x y h e = omega (arith, ints)
+end_low c d l u v true (inr p) s h k = let e = p.0 in cc
+end_low c d l u v false (inl p) s h k = let e = p.0 in cc
+
+pub end_least : (c d b : ℤ) (l u v : ℕ) → pos 0 ≤ℤ d → l ≤ v → v ≤ u → asset_cost c d (pos 0) b (pos (if int_lt c (d *ℤ pos (l + u)) then u else l)) ≤ℤ asset_cost c d (pos 0) b (pos v)
+end_least c d b l u v s h k = rw (bare_is c d b (pos (if int_lt c (d *ℤ pos (l + u)) then u else l)), bare_is c d b (pos v)) (end_low c d l u v (int_lt c (d *ℤ pos (l + u))) (lt_tells c (d *ℤ pos (l + u))) s h k)
 
 -- ---- the least over a range, as code takes it
 pub between_three : (c d t : ℤ) (b l u : ℕ) (r : ℤ) → pos 0 ≤ℤ d → l ≤ u → l < b → b < u → r ≡ int_min (int_min (asset_cost c d t (pos b) (pos l)) (asset_cost c d t (pos b) (pos u))) (asset_cost c d t (pos b) (pos b)) → IsLeastBetween l u (λ v. asset_cost c d t (pos b) (pos v)) r

@@ -11,8 +11,8 @@ use crate::costs::{Costs, Varied};
 /// each lot of distance from the `present` lots.
 #[derive(Drop)]
 pub(crate) struct AssetCost {
-    linear: i128,
-    bend: i128,
+    pub(crate) linear: i128,
+    pub(crate) bend: i128,
     price: i128,
     pub(crate) present: u16,
     ghost linear_small: { unsigned_abs linear ≤ 1201000000000000000000000000000 },
@@ -94,7 +94,7 @@ pub(crate) fn asset_at(costs: &Costs<'_>, varied: Varied, multiplier: i128, i: u
 }
 
 /// The price of `v` lots by the lot.
-fn line(asset: &AssetCost, v: u16) -> i128
+pub(crate) fn line(asset: &AssetCost, v: u16) -> i128
     requires { v ≤ 10000 }
     ensures value { result ≡ asset.now.linear *ℤ pos v }
     ensures small { unsigned_abs result ≤ 12010000000000000000000000000000000 }
@@ -112,7 +112,7 @@ fn squared(v: u16) -> u32
 }
 
 /// What the square of `v` lots takes off.
-fn square(asset: &AssetCost, v: u16) -> i128
+pub(crate) fn square(asset: &AssetCost, v: u16) -> i128
     requires { v ≤ 10000 }
     ensures value { result ≡ asset.now.bend *ℤ (pos v *ℤ pos v) }
     ensures small { unsigned_abs result ≤ 640000000000000000000000000000000 }

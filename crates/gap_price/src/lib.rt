@@ -11,6 +11,7 @@ mod asset;
 mod candidates;
 mod costs;
 mod curve;
+mod ends;
 mod least;
 mod offer;
 
