@@ -30,3 +30,13 @@ difference_back a b m ha hb k =
     let eb = back_of b m hb (omega arith) in
     let es = back_of (a -ℤ b) (2 * m) (omega (arith, ints)) k in
     rw ea (rw eb es)
+
+-- the sum of three numbers
+pub sum_three : (a b c : ℤ) (m : ℕ) → unsigned_abs a ≤ m → unsigned_abs b ≤ m → unsigned_abs c ≤ m → 3 * m < 2 ^ 127 → to_z w128 (of_z w128 (to_z w128 (of_z w128 (to_z w128 (of_z w128 a) +ℤ to_z w128 (of_z w128 b))) +ℤ to_z w128 (of_z w128 c))) ≡ (a +ℤ b) +ℤ c
+sum_three a b c m ha hb hc k =
+    let ea = back_of a m ha (omega arith) in
+    let eb = back_of b m hb (omega arith) in
+    let ec = back_of c m hc (omega arith) in
+    let ed = back_of (a +ℤ b) (2 * m) (omega (arith, ints)) (omega arith) in
+    let ee = back_of ((a +ℤ b) +ℤ c) (3 * m) (omega (arith, ints)) k in
+    rw ea (rw eb (rw ec (rw ed ee)))

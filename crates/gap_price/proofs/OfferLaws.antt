@@ -2,7 +2,7 @@
 
 use Rattle.std.proofs.Common.{◌≡◌, ℕ, ◌*◌, ◌+◌, ◌<◌, ◌≤◌, Bool, true, false, ◌&&◌, ltb, if◌then◌else◌, List, length, slice_index_or, slice_set, ℤ, pos, ◌+ℤ◌, ◌-ℤ◌, ◌*ℤ◌, neg_ℤ, ◌≤ℤ◌, ◌<ℤ◌, int_lt, unsigned_abs, refl, sym, ap, ◌∙◌, subst, ◌⊎◌, inl, inr, arith}
 use Rattle.std.proofs.lemmas.Int.{ints}
-use Rattle.std.proofs.lemmas.Bool.{and_parts, and_from, lt-ltb, ltb-true}
+use Rattle.std.proofs.lemmas.Bool.{and_parts, and_from, lt-ltb, ltb-true, cases_eq}
 use Rattle.gap_base.specs.Sums.{at, abs_z, AreWithin}
 use Rattle.gap_base.specs.Lots.{lots_at}
 use Rattle.gap_base.proofs.Machine.{unsigned_abs-product_le}
@@ -11,7 +11,7 @@ use Rattle.gap_box.specs.declared.cell.Cell.{Cell}
 use Rattle.gap_box.specs.declared.cell.Cell.TheVariants.{Out, Held, Free}
 use Rattle.gap_box.specs.Cells.{IsCell, AreCells}
 use Rattle.gap_relax.specs.Choices.{cell_at, IsLeastWay}
-use Rattle.gap_relax.proofs.Order.{lt_tells}
+use Rattle.gap_relax.proofs.Order.{lt_tells, lt_not}
 use Rattle.gap_price.specs.declared.asset.AssetCost.{AssetCost}
 use Rattle.gap_price.specs.declared.candidates.Candidate.{Candidate}
 use Rattle.gap_price.specs.declared.costs.Varied.{Varied}
@@ -19,8 +19,8 @@ use Rattle.gap_price.specs.declared.costs.Varied.TheVariants.{Lots, Distance}
 use Rattle.gap_price.specs.declared.offer.Offer.{Offer}
 use Rattle.gap_price.specs.Costs.{asset_cost}
 use Rattle.gap_price.specs.Curves.{CurveValue, cost_of, weight_of, price_by, lot_under, distance_under, varied_price, IsLeastAt}
-use Rattle.gap_price.specs.Offers.{cost_by, priced_of, weighed_of, at_lots, cheaper, cheapest, offer_with, offer_held, least_offer, none_offer, held_value, held_weight, out_value, out_weight, AreCosts, AreTabled, IsBare, end_lots, end_between, end_offer, ends_of}
-use Rattle.gap_price.proofs.OneAsset.{cost_least, bare_none, end_least}
+use Rattle.gap_price.specs.Offers.{cost_by, priced_of, weighed_of, at_lots, cheaper, cheapest, offer_with, offer_held, least_offer, none_offer, held_value, held_weight, out_value, out_weight, AreCosts, AreTabled, IsPlain, plain_cost, end_lots}
+use Rattle.gap_price.proofs.OneAsset.{cost_least, bow_least, bare_is, away_is, bow_none, ends_test}
 use Rattle.gap_price.proofs.Tables.{table_more}
 use Rattle.gap_price.proofs.CurveLaws.{IsBest, IsBestOf, least_of_ways, value_within, slope_within}
 
@@ -201,6 +201,9 @@ offer_small k m i n Out c h p v = (omega (arith, ints), omega (arith, ints))
 offer_small k m i n (Held l u) c h p v = best_small k m i n l u (least_offer k m i (Held l u)).value (least_offer k m i (Held l u)).weight c h p v.2 (cheapest_best k m i l u (c.bends_signs i h) v.1)
 offer_small k m i n (Free l u) c h p v = best_small k m i n l u (least_offer k m i (Free l u)).value (least_offer k m i (Free l u)).weight c h p v.2 (cheapest_best k m i l u (c.bends_signs i h) v.1)
 
+pub end_sizes : (k : CurveValue) (m : ℤ) (i l u : ℕ) → AreCosts k.costs (length k.cells) → i < length k.cells → unsigned_abs (varied_price k +ℤ m) ≤ 1001000000000000000000000000000 → 1 ≤ l → l ≤ u → u ≤ 10000 → unsigned_abs (least_offer k m i (Held l u)).value ≤ 30000000000000000000000000000000000
+end_sizes k m i l u c h p least order most = let s = (offer_small k m i (length k.cells) (Held l u) c h p (least, order, most)).0 in omega arith
+
 pub held_sizes : (k : CurveValue) (m : ℤ) (i : ℕ) (o : Offer) → AreCosts k.costs (length k.cells) → i < length k.cells → unsigned_abs (varied_price k +ℤ m) ≤ 1001000000000000000000000000000 → IsCell (cell_at k.cells i) → o ≡ least_offer k m i (cell_at k.cells i) → (unsigned_abs o.value ≤ 30000000000000000000000000000000000) × (unsigned_abs o.weight ≤ 20000)
 held_sizes k m i o c h p v e =
     let s = offer_small k m i (length k.cells) (cell_at k.cells i) c h p v in
@@ -221,54 +224,86 @@ held_tells k m i j o e p = (ap (held_value k m) e ∙ ap (λ (x : Offer). x.valu
 pub out_tells : (k : CurveValue) (m : ℤ) (i j : ℕ) (o : Offer) → j ≡ i → o ≡ none_offer k m i → (out_value k m j ≡ o.value) × (out_weight k m j ≡ o.weight)
 out_tells k m i j o e p = (ap (out_value k m) e ∙ ap (λ (x : Offer). x.value) (sym p), ap (out_weight k m) e ∙ ap (λ (x : Offer). x.weight) (sym p))
 
--- ---- where distance has no price the better end is least
-bare_priced : (k : CurveValue) (m : ℤ) (i v : ℕ) → IsBare k → priced_of k m i v ≡ asset_cost (line_of k m i k.varied) (at k.costs.bends i) (pos 0) (lots_at k.costs.present i) (pos v)
-bare_priced k m i v bare = priced_is k m i k.varied (pos v) ∙ ap (λ z. asset_cost (line_of k m i k.varied) (at k.costs.bends i) z (lots_at k.costs.present i) (pos v)) (ap (λ x. distance_under x k.costs m) bare.by_lots ∙ bare.free)
-
-end_among : (t : Bool) (l u : ℕ) → l ≤ u → (l ≤ (if t then u else l)) × ((if t then u else l) ≤ u)
-end_among true l u h = (h, omega arith)
-end_among false l u h = (omega arith, h)
-
-end_best : (k : CurveValue) (m : ℤ) (i l u : ℕ) → IsBare k → pos 0 ≤ℤ at k.costs.bends i → l ≤ u → IsBest (priced_of k m i) (weighed_of k i) l u (end_between k m i l u).value (end_between k m i l u).weight
-end_best k m i l u bare s h =
+-- ---- where a lot of distance is the same as one more lot, the better end is the cheapest candidate
+pub priced_plain : (k : CurveValue) (m : ℤ) (i v : ℕ) → IsPlain k i → priced_of k m i v ≡ plain_cost (line_of k m i k.varied +ℤ away_of k m k.varied) (at k.costs.bends i) v
+priced_plain k m i v (inl bare) =
     let line = line_of k m i k.varied in
     let bend = at k.costs.bends i in
-    let e = end_lots line bend l u in
-    let a = end_among (int_lt line (bend *ℤ pos (l + u))) l u h in
-    record {
-      reached = (e, a.0, a.1, refl, ap (λ x. weight_of x (lots_at k.costs.present i) (pos e)) bare.by_lots);
-      below = λ v x y. le_by _ _ _ _ (bare_priced k m i e bare) (bare_priced k m i v bare) (end_least line bend (lots_at k.costs.present i) l u v s x y);
-    }
+    let free : away_of k m k.varied ≡ pos 0 = ap (λ x. distance_under x k.costs m) bare.by_lots ∙ bare.free in
+    priced_is k m i k.varied (pos v)
+    ∙ ap (λ z. asset_cost line bend z (lots_at k.costs.present i) (pos v)) free
+    ∙ bare_is line bend (lots_at k.costs.present i) (pos v)
+    ∙ ap (λ z. plain_cost z bend v) (added line (away_of k m k.varied) free)
   where
-    le_by : (x y a b : ℤ) → x ≡ a → y ≡ b → a ≤ℤ b → x ≤ℤ y
-    le_by x y a b e f h = omega (arith, ints)
+    added : (x y : ℤ) → y ≡ pos 0 → x ≡ x +ℤ y
+    added x y e = omega (arith, ints)
+priced_plain k m i v (inr none) =
+    let line = line_of k m i k.varied in
+    let bend = at k.costs.bends i in
+    priced_is k m i k.varied (pos v)
+    ∙ ap (λ (n : ℕ). asset_cost line bend (away_of k m k.varied) (pos n) (pos v)) none
+    ∙ away_is line bend (away_of k m k.varied) v
 
-end_best_of : (k : CurveValue) (m : ℤ) (i : ℕ) (cell : Cell) → IsBare k → IsCell cell → pos 0 ≤ℤ at k.costs.bends i → IsBestOf cell (priced_of k m i) (weighed_of k i) (end_offer k m i cell).value (end_offer k m i cell).weight
-end_best_of k m i Out bare v s = tt
-end_best_of k m i (Held l u) bare v s = end_best k m i l u bare s v.1
-end_best_of k m i (Free l u) bare v s = end_best k m i l u bare s v.1
+pub weighed_plain : (k : CurveValue) (i v : ℕ) → IsPlain k i → weighed_of k i v ≡ pos v
+weighed_plain k i v (inl bare) = ap (λ x. weight_of x (lots_at k.costs.present i) (pos v)) bare.by_lots
+weighed_plain k i v (inr none) = ap (λ (n : ℕ). weight_of k.varied (pos n) (pos v)) none ∙ by_varied k.varied
+  where
+    by_varied : (varied : Varied) → weight_of varied (pos 0) (pos v) ≡ pos v
+    by_varied Lots = refl
+    by_varied Distance = omega (arith, ints)
 
-pub least_by_ends : (k : CurveValue) (m : ℤ) (value slope : ℤ) → IsBare k → AreCells k.cells → AreCosts k.costs (length k.cells) → IsLeastWay k.cells (ends_of k m).held_cost (ends_of k m).out_cost (ends_of k m).held_slope (ends_of k m).out_slope k.fewest k.most value slope → IsLeastAt k m value slope
-least_by_ends k m value slope bare valid c least = least_of_ways k m (ends_of k m).held_cost (ends_of k m).out_cost (ends_of k m).held_slope (ends_of k m).out_slope value slope valid (λ i l. end_best_of k m i (cell_at k.cells i) bare (valid.each i) (c.bends_signs i l)) (λ i l. sym (bare_priced k m i 0 bare ∙ bare_none (line_of k m i k.varied) (at k.costs.bends i) (lots_at k.costs.present i))) (λ i l. sym (ap (λ x. weight_of x (lots_at k.costs.present i) (pos 0)) bare.by_lots)) least
+-- where it isn't held, it costs and weighs nothing
+pub plain_none : (k : CurveValue) (m : ℤ) (i j : ℕ) → j ≡ i → IsPlain k i → (out_value k m j ≡ pos 0) × (out_weight k m j ≡ pos 0)
+plain_none k m i j e plain = (ap (out_value k m) e ∙ priced_plain k m i 0 plain ∙ bow_none (line_of k m i k.varied +ℤ away_of k m k.varied) (at k.costs.bends i), ap (out_weight k m) e ∙ weighed_plain k i 0 plain)
 
--- what the better end of an asset with these prices costs
-end_same : (f g : ℕ → ℤ) (x y a b : ℤ) (l u : ℕ) → x ≡ y → a ≡ b → ((v : ℕ) → f v ≡ g v) → at_lots f (end_lots x a l u) ≡ at_lots g (end_lots y b l u)
-end_same f g x y a b l u d e same = ap (λ z. at_lots f (end_lots z a l u)) d ∙ ap (λ z. at_lots f (end_lots y z l u)) e ∙ ap (λ z. record { lots = end_lots y b l u; cost = z }) (same (end_lots y b l u))
+-- the better end of a cost that bows is the cheaper one, and no cost between is less
+end_cheaper : (g : ℕ → ℤ) (c d : ℤ) (l u : ℕ) → l ≤ u → ((v : ℕ) → g v ≡ plain_cost c d v) → at_lots g (end_lots c d l u) ≡ cheaper (at_lots g l) (at_lots g u)
+end_cheaper g c d l u h same = by_order (cases_eq l u)
+  where
+    alike : (s t : Bool) (n : ℕ) → at_lots g (if s then n else n) ≡ (if t then at_lots g n else at_lots g n)
+    alike true true n = refl
+    alike true false n = refl
+    alike false true n = refl
+    alike false false n = refl
 
-pub end_is : (k : CurveValue) (m : ℤ) (i l u : ℕ) (a : AssetCost) (x : Candidate) (o : Offer) → a.linear ≡ at k.costs.linear i +ℤ lot_under k.varied k.costs m → a.bend ≡ at k.costs.bends i → ((v : ℕ) → cost_by a v ≡ priced_of k m i v) → x ≡ at_lots (cost_by a) (end_lots a.linear a.bend l u) → o ≡ offer_with Lots 0 x → o ≡ end_between k m i l u
-end_is k m i l u a x o d e same p q = q ∙ ap (offer_with Lots 0) (p ∙ end_same (cost_by a) (priced_of k m i) a.linear (line_of k m i k.varied) a.bend (at k.costs.bends i) l u d e same)
+    chosen : (s t : Bool) → s ≡ t → at_lots g (if s then u else l) ≡ (if t then at_lots g u else at_lots g l)
+    chosen true true e = refl
+    chosen false false e = refl
+    chosen true false e = cc
+    chosen false true e = cc
 
--- what the better end at a place tells of the ways
-pub end_tells : (k : CurveValue) (m : ℤ) (i j : ℕ) (o : Offer) → j ≡ i → o ≡ end_offer k m i (cell_at k.cells i) → ((ends_of k m).held_cost j ≡ o.value) × ((ends_of k m).held_slope j ≡ o.weight)
-end_tells k m i j o e p = (ap (ends_of k m).held_cost e ∙ ap (λ (x : Offer). x.value) (sym p), ap (ends_of k m).held_slope e ∙ ap (λ (x : Offer). x.weight) (sym p))
+    by_order : (l ≡ u) ⊎ (l ≡ u → ⊥) → at_lots g (end_lots c d l u) ≡ cheaper (at_lots g l) (at_lots g u)
+    by_order (inl e) = subst (λ (n : ℕ). at_lots g (end_lots c d l n) ≡ cheaper (at_lots g l) (at_lots g n)) e (alike (int_lt c (d *ℤ pos (l + l))) (int_lt (g l) (g l)) l)
+    by_order (inr n) = chosen (int_lt c (d *ℤ pos (l + u))) (int_lt (g u) (g l)) (ends_test c d l u (omega (arith, n)) ∙ ap (λ z. int_lt z (plain_cost c d l)) (sym (same u)) ∙ ap (int_lt (g u)) (sym (same l)))
 
--- what an end costs and weighs is small
-pub end_sizes : (k : CurveValue) (m : ℤ) (i l u : ℕ) → AreCosts k.costs (length k.cells) → i < length k.cells → unsigned_abs (varied_price k +ℤ m) ≤ 1001000000000000000000000000000 → l ≤ u → u ≤ 10000 → (unsigned_abs (end_between k m i l u).value ≤ 30000000000000000000000000000000000) × (unsigned_abs (end_between k m i l u).weight ≤ 20000)
-end_sizes k m i l u c h p order most =
-    let e = end_lots (line_of k m i k.varied) (at k.costs.bends i) l u in
-    let a = (end_among (int_lt (line_of k m i k.varied) (at k.costs.bends i *ℤ pos (l + u))) l u order).1 in
-    let s = priced_small k m i (length k.cells) e c h p (omega arith) in
-    (omega arith, omega (arith, ints))
+cheapest_ends : (g : ℕ → ℤ) (c d : ℤ) (l u b : ℕ) → pos 0 ≤ℤ d → ((v : ℕ) → g v ≡ plain_cost c d v) → cheapest g l u b ≡ cheaper (at_lots g l) (at_lots g u)
+cheapest_ends g c d l u b s same = by_test (ltb l b && ltb b u) refl
+  where
+    kept : (x y : Candidate) → x.cost ≤ℤ y.cost → cheaper x y ≡ x
+    kept x y h = ap (λ (t : Bool). if t then y else x) (lt_not y.cost x.cost h)
+
+    by_test : (t : Bool) → (ltb l b && ltb b u) ≡ t → (if t then cheaper (cheaper (at_lots g l) (at_lots g u)) (at_lots g b) else cheaper (at_lots g l) (at_lots g u)) ≡ cheaper (at_lots g l) (at_lots g u)
+    by_test false e = refl
+    by_test true e =
+        let r = and_parts (ltb l b) (ltb b u) e in
+        let lb : l < b = ltb-true l b r.0 in
+        let bu : b < u = ltb-true b u r.1 in
+        let p = cheaper_low (at_lots g l) (at_lots g u) in
+        let low = (cheaper (at_lots g l) (at_lots g u)).cost in
+        kept (cheaper (at_lots g l) (at_lots g u)) (at_lots g b) (subst (λ (z : ℤ). low ≤ℤ z) (sym (same b)) (bow_least c d (pos l) (pos b) (pos u) low s (omega (arith, ints)) (omega (arith, ints)) (subst (λ (z : ℤ). low ≤ℤ z) (same l) p.0) (subst (λ (z : ℤ). low ≤ℤ z) (same u) p.1)))
+
+-- what the better end costs is the least offer
+pub end_is : (k : CurveValue) (m : ℤ) (i l u : ℕ) (line bend : ℤ) (x : Candidate) (o : Offer) → IsPlain k i → pos 0 ≤ℤ at k.costs.bends i → l ≤ u → line ≡ (at k.costs.linear i +ℤ lot_under k.varied k.costs m) +ℤ distance_under k.varied k.costs m → bend ≡ at k.costs.bends i → x ≡ at_lots (plain_cost line bend) (end_lots line bend l u) → o ≡ offer_with Lots 0 x → o ≡ least_offer k m i (Held l u)
+end_is k m i l u line bend x o plain s h d e p q =
+    let g = priced_of k m i in
+    let L = line_of k m i k.varied +ℤ away_of k m k.varied in
+    let B = at k.costs.bends i in
+    let b = slice_index_or k.costs.present i 0 in
+    let same : (v : ℕ) → g v ≡ plain_cost L B v = λ v. priced_plain k m i v plain in
+    let a = ap (λ z. at_lots (plain_cost z bend) (end_lots z bend l u)) d ∙ ap (λ z. at_lots (plain_cost L z) (end_lots L z l u)) e in
+    let n = ap (λ z. record { lots = end_lots L B l u; cost = z }) (sym (same (end_lots L B l u))) in
+    let c = p ∙ a ∙ n ∙ end_cheaper g L B l u h same ∙ sym (cheapest_ends g L B l u b s same) in
+    q ∙ ap (offer_with Lots 0) c ∙ ap (λ z. record { value = (cheapest g l u b).cost; weight = z }) (sym (weighed_plain k i (cheapest g l u b).lots plain))
 
 -- ---- what a whole curve says
 pub tabled_none : (k : CurveValue) (m : ℤ) (held out held_weights out_weights : List ℤ) → AreTabled k m 0 held out held_weights out_weights

@@ -1,12 +1,12 @@
 -- The least cost of one asset over a range is at an end of the range, or at the present lots between them, since the
 -- square enters with a negative sign.
 
-use Rattle.std.proofs.Common.{◌≡◌, ℕ, ◌+◌, ◌<◌, ◌≤◌, Bool, true, false, if◌then◌else◌, ℤ, pos, ◌+ℤ◌, ◌-ℤ◌, ◌*ℤ◌, neg_ℤ, ◌≤ℤ◌, ◌<ℤ◌, int_lt, refl, ap, ◌∙◌, ◌⊎◌, inl, inr, arith}
+use Rattle.std.proofs.Common.{◌≡◌, ℕ, ◌+◌, ◌<◌, ◌≤◌, ℤ, pos, ◌+ℤ◌, ◌-ℤ◌, ◌*ℤ◌, neg_ℤ, ◌≤ℤ◌, ◌<ℤ◌, int_lt, refl, sym, ap, ◌∙◌, inl, inr, arith}
 use Rattle.std.proofs.lemmas.Int.{ints, clamps, by_lt_z}
 use Rattle.std.specs.Int.{int_min}
 use Rattle.gap_base.specs.Sums.{abs_z}
-use Rattle.gap_base.proofs.Ring.{expand, linear, product_not_negative, scaled_le}
-use Rattle.gap_relax.proofs.Order.{lt_tells}
+use Rattle.gap_base.proofs.Ring.{expand, linear, product_not_negative, product_positive, scaled_le}
+use Rattle.gap_relax.proofs.Order.{lt_tells, lt_is, lt_not}
 use Rattle.gap_price.specs.Costs.{asset_cost, IsLeastBetween}
 
 -- ---- a line less a square
@@ -94,37 +94,52 @@ cost_least c d t b l u v r s h k p q m =
     (λ (ub : u ≤ℤ b). piece_below c d t b l v u r s ub h k p q))
     (λ (bl : b ≤ℤ l). piece_above c d t b l v u r s bl h k p q)
 
--- ---- where distance has no price the better end is least
+-- ---- where distance has no price, or nothing is present, the better end is least
 no_price : (x y : ℤ) → x +ℤ (pos 0 *ℤ y) ≡ x
 no_price x y = simp expand (omega (arith, linear))
 
 pub bare_is : (c d b v : ℤ) → asset_cost c d (pos 0) b v ≡ bow c d v
 bare_is c d b v = no_price (bow c d v) (abs_z (v -ℤ b))
 
-bow_none : (c d : ℤ) → bow c d (pos 0) ≡ pos 0
+none_off : (x t : ℤ) → x +ℤ neg_ℤ (t *ℤ pos 0) ≡ x
+none_off x t = omega (arith, linear)
+
+pub away_is : (c d t : ℤ) (v : ℕ) → asset_cost c d t (pos 0) (pos v) ≡ bow (c +ℤ t) d (pos v)
+away_is c d t v = cost_above c d t (pos 0) (pos v) (omega (arith, ints)) ∙ none_off (bow (c +ℤ t) d (pos v)) t
+
+pub bow_none : (c d : ℤ) → bow c d (pos 0) ≡ pos 0
 bow_none c d = omega (arith, linear)
 
-pub bare_none : (c d b : ℤ) → asset_cost c d (pos 0) b (pos 0) ≡ pos 0
-bare_none c d b = bare_is c d b (pos 0) ∙ bow_none c d
+sum_of_ends : (d : ℤ) (l u : ℕ) → d *ℤ (pos u +ℤ pos l) ≡ d *ℤ pos (l + u)
+sum_of_ends d l u = ap (λ z. d *ℤ z) (omega (arith, ints))
 
-end_low : (c d : ℤ) (l u v : ℕ) (t : Bool) → ((t ≡ true) × (c <ℤ (d *ℤ pos (l + u)))) ⊎ ((t ≡ false) × ((d *ℤ pos (l + u)) ≤ℤ c)) → pos 0 ≤ℤ d → l ≤ v → v ≤ u → bow c d (pos (if t then u else l)) ≤ℤ bow c d (pos v)
-end_low c d l u v true (inl p) s h k =
-    let q = above_end c d (pos l) (pos u) (omega (arith, ints)) (met c (d *ℤ pos (l + u)) (d *ℤ (pos u +ℤ pos l)) p.1 (ap (λ z. d *ℤ z) (omega (arith, ints)))) in
-    bow_least c d (pos l) (pos v) (pos u) (bow c d (pos u)) s (omega (arith, ints)) (omega (arith, ints)) q (omega (arith, ints))
+-- a bow at the ends, by the test
+upper_less : (c d : ℤ) (l u : ℕ) → l < u → c <ℤ (d *ℤ pos (l + u)) → bow c d (pos u) <ℤ bow c d (pos l)
+upper_less c d l u h k =
+    let e = sum_of_ends d l u in
+    let p = product_positive (pos u +ℤ neg_ℤ (pos l)) (d *ℤ (pos u +ℤ pos l) +ℤ neg_ℤ c) (omega (arith, ints)) (above c (d *ℤ pos (l + u)) (d *ℤ (pos u +ℤ pos l)) k e) in
+    let q = rise_is c d (pos l) (pos u) in
+    let r = turned (pos u +ℤ neg_ℤ (pos l)) (d *ℤ (pos u +ℤ pos l)) c in
+    less _ _ _ _ p q r
   where
-    met : (c x y : ℤ) → c <ℤ x → x ≡ y → c ≤ℤ y
-    met c x y h e = omega (arith, ints)
-end_low c d l u v false (inr p) s h k =
-    let q = above_start c d (pos l) (pos u) (omega (arith, ints)) (met c (d *ℤ pos (l + u)) (d *ℤ (pos u +ℤ pos l)) p.1 (ap (λ z. d *ℤ z) (omega (arith, ints)))) in
-    bow_least c d (pos l) (pos v) (pos u) (bow c d (pos l)) s (omega (arith, ints)) (omega (arith, ints)) (omega (arith, ints)) q
-  where
-    met : (c x y : ℤ) → x ≤ℤ c → x ≡ y → y ≤ℤ c
-    met c x y h e = omega (arith, ints)
-end_low c d l u v true (inr p) s h k = let e = p.0 in cc
-end_low c d l u v false (inl p) s h k = let e = p.0 in cc
+    above : (c x y : ℤ) → c <ℤ x → y ≡ x → pos 0 <ℤ (y +ℤ neg_ℤ c)
+    above c x y h e = omega (arith, ints)
 
-pub end_least : (c d b : ℤ) (l u v : ℕ) → pos 0 ≤ℤ d → l ≤ v → v ≤ u → asset_cost c d (pos 0) b (pos (if int_lt c (d *ℤ pos (l + u)) then u else l)) ≤ℤ asset_cost c d (pos 0) b (pos v)
-end_least c d b l u v s h k = rw (bare_is c d b (pos (if int_lt c (d *ℤ pos (l + u)) then u else l)), bare_is c d b (pos v)) (end_low c d l u v (int_lt c (d *ℤ pos (l + u))) (lt_tells c (d *ℤ pos (l + u))) s h k)
+    turned : (x y z : ℤ) → x *ℤ (y +ℤ neg_ℤ z) ≡ neg_ℤ (x *ℤ (z +ℤ neg_ℤ y))
+    turned x y z = simp expand (omega (arith, linear))
+
+    less : (p q x y : ℤ) → pos 0 <ℤ p → q ≡ x +ℤ neg_ℤ y → p ≡ neg_ℤ q → x <ℤ y
+    less p q x y h e f = omega (arith, ints)
+
+lower_least : (c d : ℤ) (l u : ℕ) → l ≤ u → (d *ℤ pos (l + u)) ≤ℤ c → bow c d (pos l) ≤ℤ bow c d (pos u)
+lower_least c d l u h k = above_start c d (pos l) (pos u) (omega (arith, ints)) (met c (d *ℤ pos (l + u)) (d *ℤ (pos u +ℤ pos l)) k (sum_of_ends d l u))
+  where
+    met : (c x y : ℤ) → x ≤ℤ c → y ≡ x → y ≤ℤ c
+    met c x y h e = omega (arith, ints)
+
+-- the test by the prices is that by the costs
+pub ends_test : (c d : ℤ) (l u : ℕ) → l < u → int_lt c (d *ℤ pos (l + u)) ≡ int_lt (bow c d (pos u)) (bow c d (pos l))
+ends_test c d l u h = elim (lt_tells c (d *ℤ pos (l + u))) [ inl p ↦ p.0 ∙ sym (lt_is (bow c d (pos u)) (bow c d (pos l)) (upper_less c d l u h p.1)) | inr p ↦ p.0 ∙ sym (lt_not (bow c d (pos u)) (bow c d (pos l)) (lower_least c d l u (omega arith) p.1)) ]
 
 -- ---- the least over a range, as code takes it
 pub between_three : (c d t : ℤ) (b l u : ℕ) (r : ℤ) → pos 0 ≤ℤ d → l ≤ u → l < b → b < u → r ≡ int_min (int_min (asset_cost c d t (pos b) (pos l)) (asset_cost c d t (pos b) (pos u))) (asset_cost c d t (pos b) (pos b)) → IsLeastBetween l u (λ v. asset_cost c d t (pos b) (pos v)) r

@@ -1,6 +1,6 @@
 -- What holding an asset costs under a multiplier. Own to portgap.
 
-use Rattle.std.specs.Prelude.{◌≡◌, ℕ, ◌+◌, ◌<◌, ◌≤◌, true, ◌&&◌, ltb, if◌then◌else◌, List, length, slice_index_or, ℤ, pos, ◌+ℤ◌, ◌*ℤ◌, ◌≤ℤ◌, int_lt, unsigned_abs}
+use Rattle.std.specs.Prelude.{◌≡◌, ℕ, ◌+◌, ◌⊎◌, ◌<◌, ◌≤◌, true, ◌&&◌, ltb, if◌then◌else◌, List, length, slice_index_or, ℤ, pos, ◌+ℤ◌, ◌-ℤ◌, ◌*ℤ◌, ◌≤ℤ◌, int_lt, unsigned_abs}
 use Rattle.gap_base.specs.Sums.{at}
 use Rattle.gap_base.specs.Lots.{lots_at}
 use Rattle.gap_box.specs.declared.cell.Cell.{Cell}
@@ -14,7 +14,7 @@ use Rattle.gap_price.specs.declared.costs.Varied.{Varied}
 use Rattle.gap_price.specs.declared.costs.Varied.TheVariants.{Lots as ByLots}
 use Rattle.gap_price.specs.declared.offer.Offer.{Offer}
 use Rattle.gap_price.specs.Costs.{asset_cost, most_linear, most_bend, most_price}
-use Rattle.gap_price.specs.Curves.{CostsValue, CurveValue, cost_of, weight_of, lot_under}
+use Rattle.gap_price.specs.Curves.{CostsValue, CurveValue, cost_of, weight_of}
 
 -- the cost of v lots of an asset
 abbrev pub cost_by : AssetCost → ℕ → ℤ
@@ -63,24 +63,17 @@ pub record IsBare (c : CurveValue) : Type 0 where
   pub by_lots : c.varied ≡ ByLots
   pub free : c.costs.distance_price ≡ pos 0
 
--- the end of l to u lots at which a price of each lot, less what a square takes off, costs least: a lot more costs the
--- price less what the square takes off for it
+-- a lot of distance of the asset i is the same as one more lot, or distance has no price
+abbrev pub IsPlain : CurveValue → ℕ → Type 0
+IsPlain c i = IsBare c ⊎ (slice_index_or c.costs.present i 0 ≡ 0)
+
+-- the cost of v lots by a price of each, less what a square takes off
+abbrev pub plain_cost : ℤ → ℤ → ℕ → ℤ
+plain_cost line bend v = (line *ℤ pos v) -ℤ (bend *ℤ (pos v *ℤ pos v))
+
+-- the end of l to u lots at which that is least: a lot more costs the price less what the square takes off for it
 abbrev pub end_lots : ℤ → ℤ → ℕ → ℕ → ℕ
 end_lots line bend l u = if int_lt line (bend *ℤ pos (l + u)) then u else l
-
-abbrev pub end_by : AssetCost → ℕ → ℕ → ℕ
-end_by a l u = end_lots a.linear a.bend l u
-
--- the offer of the better end, where distance has no price
-abbrev pub end_between : CurveValue → ℤ → ℕ → ℕ → ℕ → Offer
-end_between c multiplier i l u =
-    offer_with ByLots 0 (at_lots (priced_of c multiplier i)
-    (end_lots (at c.costs.linear i +ℤ lot_under c.varied c.costs multiplier) (at c.costs.bends i) l u))
-
-abbrev pub end_offer : CurveValue → ℤ → ℕ → Cell → Offer
-end_offer c multiplier i Out = record { value = pos 0; weight = pos 0 }
-end_offer c multiplier i (Held l u) = end_between c multiplier i l u
-end_offer c multiplier i (Free l u) = end_between c multiplier i l u
 
 -- the costs of holding each place's asset and of not holding it under a multiplier, and their weights
 abbrev pub held_value : CurveValue → ℤ → ℕ → ℤ
@@ -111,18 +104,6 @@ ways_of c multiplier = record {
   out_cost = out_value c multiplier;
   held_slope = held_weight c multiplier;
   out_slope = out_weight c multiplier;
-  fewest = c.fewest;
-  most = c.most;
-}
-
--- the same where distance has no price: held at the better end, and nothing where it isn't held
-abbrev pub ends_of : CurveValue → ℤ → Ways
-ends_of c multiplier = record {
-  cells = c.cells;
-  held_cost = λ i. (end_offer c multiplier i (cell_at c.cells i)).value;
-  out_cost = λ i. pos 0;
-  held_slope = λ i. (end_offer c multiplier i (cell_at c.cells i)).weight;
-  out_slope = λ i. pos 0;
   fewest = c.fewest;
   most = c.most;
 }

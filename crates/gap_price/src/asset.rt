@@ -11,8 +11,8 @@ use crate::costs::{Costs, Varied};
 /// each lot of distance from the `present` lots.
 #[derive(Drop)]
 pub(crate) struct AssetCost {
-    pub(crate) linear: i128,
-    pub(crate) bend: i128,
+    linear: i128,
+    bend: i128,
     price: i128,
     pub(crate) present: u16,
     ghost linear_small: { unsigned_abs linear ≤ 1201000000000000000000000000000 },
@@ -23,7 +23,7 @@ pub(crate) struct AssetCost {
 }
 
 /// The number at place `i`.
-fn linear_at(costs: &Costs<'_>, i: u16) -> i128
+pub(crate) fn linear_at(costs: &Costs<'_>, i: u16) -> i128
     requires { i < length costs.now.linear.now }
     ensures value { result ≡ at costs.now.linear.now i }
     ensures small { unsigned_abs result ≤ 200000000000000000000000000000 }
@@ -32,7 +32,7 @@ fn linear_at(costs: &Costs<'_>, i: u16) -> i128
 }
 
 /// What a square takes off of asset `i`.
-fn bend_at(costs: &Costs<'_>, i: u16) -> i128
+pub(crate) fn bend_at(costs: &Costs<'_>, i: u16) -> i128
     requires { i < length costs.now.bends.now }
     ensures value { result ≡ at costs.now.bends.now i }
     ensures small { unsigned_abs result ≤ most_bend }
@@ -51,7 +51,7 @@ fn present_at(costs: &Costs<'_>, i: u16) -> u16
 }
 
 /// The price of each lot that all assets share, under the multiplier.
-fn lot_price(costs: &Costs<'_>, varied: Varied, multiplier: i128) -> i128
+pub(crate) fn lot_price(costs: &Costs<'_>, varied: Varied, multiplier: i128) -> i128
     requires { unsigned_abs (price_by varied (costs_with costs.now) +ℤ multiplier) ≤ most_price }
     ensures value { result ≡ lot_under varied (costs_with costs.now) multiplier }
     ensures small { unsigned_abs result ≤ most_price }
@@ -63,7 +63,7 @@ fn lot_price(costs: &Costs<'_>, varied: Varied, multiplier: i128) -> i128
 }
 
 /// The price of each lot of distance, under the multiplier.
-fn distance_price(costs: &Costs<'_>, varied: Varied, multiplier: i128) -> i128
+pub(crate) fn distance_price(costs: &Costs<'_>, varied: Varied, multiplier: i128) -> i128
     requires { unsigned_abs (price_by varied (costs_with costs.now) +ℤ multiplier) ≤ most_price }
     ensures value { result ≡ distance_under varied (costs_with costs.now) multiplier }
     ensures small { unsigned_abs result ≤ most_price }
@@ -94,7 +94,7 @@ pub(crate) fn asset_at(costs: &Costs<'_>, varied: Varied, multiplier: i128, i: u
 }
 
 /// The price of `v` lots by the lot.
-pub(crate) fn line(asset: &AssetCost, v: u16) -> i128
+fn line(asset: &AssetCost, v: u16) -> i128
     requires { v ≤ 10000 }
     ensures value { result ≡ asset.now.linear *ℤ pos v }
     ensures small { unsigned_abs result ≤ 12010000000000000000000000000000000 }
@@ -103,7 +103,7 @@ pub(crate) fn line(asset: &AssetCost, v: u16) -> i128
 }
 
 /// `v * v`
-fn squared(v: u16) -> u32
+pub(crate) fn squared(v: u16) -> u32
     requires { v ≤ 10000 }
     ensures value { result ≡ v * v }
     ensures small { result ≤ 100000000 }
@@ -112,7 +112,7 @@ fn squared(v: u16) -> u32
 }
 
 /// What the square of `v` lots takes off.
-pub(crate) fn square(asset: &AssetCost, v: u16) -> i128
+fn square(asset: &AssetCost, v: u16) -> i128
     requires { v ≤ 10000 }
     ensures value { result ≡ asset.now.bend *ℤ (pos v *ℤ pos v) }
     ensures small { unsigned_abs result ≤ 640000000000000000000000000000000 }

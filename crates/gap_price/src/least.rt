@@ -4,15 +4,15 @@ ghost use Rattle.std.specs.Prelude.{◌≡◌, ℕ, ◌+◌, ◌-◌, ◌*◌, �
 ghost use Rattle.gap_box.specs.Parts.{can_meet};
 ghost use Rattle.gap_relax.specs.SoFar.{HasSeen};
 ghost use Rattle.gap_price.specs.Costs.{most_price};
-ghost use Rattle.gap_base.specs.Sums.{at};
-ghost use Rattle.gap_price.specs.Curves.{curve_with, costs_with, lot_under, distance_under, varied_price, IsLeastAt};
-ghost use Rattle.gap_price.specs.Offers.{cost_by, priced_of, ways_of, ends_of, end_between, AreTabled, IsBare};
+ghost use Rattle.gap_price.specs.Curves.{curve_with, varied_price, IsLeastAt};
+ghost use Rattle.gap_price.specs.Offers.{cost_by, priced_of, least_offer, ways_of, AreTabled, IsBare, IsPlain};
+ghost use Rattle.gap_box.specs.declared.cell.Cell.TheVariants.{Held};
 ghost use Rattle.gap_price.specs.CurveOf.{curve_of};
 
 use crate::asset::{AssetCost, asset_at};
 use crate::costs::{Costs, Varied};
 use crate::curve::CostCurve;
-use crate::ends::{bare_offer, cheaper_end};
+use crate::ends::{cheaper_end, plain_at, plain_offer};
 use crate::offer::{Offer, held_offer, out_offer};
 use gap_box::{Cell, Part};
 use gap_relax::{Chosen, LeastRow, least_with_slope};
@@ -49,8 +49,8 @@ impl<'a> CostCurve<'a> {
 
     /// The least cost at the multiplier over the lists, with the weight of one of them that has it: the slope of a line
     /// that is nowhere below the curve. It takes no memory. Where at most 32 of the free cells may be held it costs one
-    /// pass over the cells, in each of which mostly a few products and one comparison (three products where distance has
-    /// no price); else O(N log N) at most, O(N) on average.
+    /// pass over the cells, in each of which mostly two comparisons and three products (some ten where the asset has
+    /// present lots and distance a price); else O(N log N) at most, O(N) on average.
     pub fn at(&self, multiplier: i128) -> Chosen
         requires multiplier { unsigned_abs multiplier ≤ most_price }
         requires price { unsigned_abs (varied_price (curve_of self.now) +ℤ multiplier) ≤ most_price }
@@ -61,78 +61,7 @@ impl<'a> CostCurve<'a> {
         if 32 < self.most.saturating_sub(self.held) {
             return self.by_tables(multiplier);
         }
-        if self.is_bare() {
-            return self.by_ends(multiplier);
-        }
         self.in_one_pass(multiplier)
-    }
-
-    /// Does distance have no price, whatever the multiplier?
-    fn is_bare(&self) -> bool
-        ensures { IsTrue result → IsBare (curve_of self.now) }
-    {
-        match self.varied {
-            Varied::Lots => self.costs.distance_price == 0,
-            Varied::Distance => false,
-        }
-    }
-
-    /// The least, where at most 32 of the free cells may be held and distance has no price.
-    fn by_ends(&self, multiplier: i128) -> Chosen
-        requires price { unsigned_abs (varied_price (curve_of self.now) +ℤ multiplier) ≤ most_price }
-        requires few { self.now.most - self.now.held ≤ 32 }
-        requires bare { IsBare (curve_of self.now) }
-        ensures least { IsLeastAt (curve_of self.now) multiplier result.value result.slope }
-        ensures value_small { unsigned_abs result.value ≤ 256 * 23000000000000000000000000000000000 }
-        ensures slope_small { unsigned_abs result.slope ≤ 256 * 10000 }
-    {
-        let mut row = LeastRow::new(
-            self.fewest.saturating_sub(self.held),
-            self.most.saturating_sub(self.held),
-        );
-        for i in 0..self.part.len() {
-            self.hand_end(multiplier, i, &mut row);
-        }
-        row.chosen()
-    }
-
-    /// Hands the row the cell at place `i`, with what its better end costs and weighs at the multiplier.
-    fn hand_end(&self, multiplier: i128, i: u16, row: &mut LeastRow)
-        requires price { unsigned_abs (varied_price (curve_of self.now) +ℤ multiplier) ≤ most_price }
-        requires bare { IsBare (curve_of self.now) }
-        requires there { i < length self.now.part.now }
-        requires room { i < 256 }
-        requires next { row.old.seen ≡ i }
-        ensures next { row.new.seen ≡ i + 1 }
-        ensures least { HasSeen (ends_of (curve_of self.now) multiplier) row.old
-            → HasSeen (ends_of (curve_of self.now) multiplier) row.new }
-    {
-        match self.part.cell(i) {
-            Cell::Out => row.leave(0, 0),
-            Cell::Held { l, u } => {
-                let holding = self.end_offer(multiplier, i, l, u);
-                row.hold(holding.value, holding.weight);
-            }
-            Cell::Free { l, u } => {
-                let holding = self.end_offer(multiplier, i, l, u);
-                row.offer(holding.value, holding.weight, 0, 0);
-            }
-        }
-    }
-
-    /// What `l` or `u` lots of asset `i` cost, whichever is less, where distance has no price.
-    fn end_offer(&self, multiplier: i128, i: u16, l: u16, u: u16) -> Offer
-        requires price { unsigned_abs (varied_price (curve_of self.now) +ℤ multiplier) ≤ most_price }
-        requires bare { IsBare (curve_of self.now) }
-        requires there { i < length self.now.part.now }
-        requires order { l ≤ u }
-        requires most { u ≤ 10000 }
-        ensures offer { result ≡ end_between (curve_of self.now) multiplier i l u }
-        ensures value_small { unsigned_abs result.value ≤ 30000000000000000000000000000000000 }
-        ensures weight_small { unsigned_abs result.weight ≤ 20000 }
-    {
-        let asset = self.asset_at(multiplier, i);
-        bare_offer(cheaper_end(&asset, l, u))
     }
 
     /// The same, where at most 32 of the free cells may be held.
@@ -155,6 +84,81 @@ impl<'a> CostCurve<'a> {
 
     /// Hands the row the cell at place `i`, with what it costs and weighs at the multiplier.
     fn hand(&self, multiplier: i128, i: u16, row: &mut LeastRow)
+        requires price { unsigned_abs (varied_price (curve_of self.now) +ℤ multiplier) ≤ most_price }
+        requires there { i < length self.now.part.now }
+        requires room { i < 256 }
+        requires next { row.old.seen ≡ i }
+        ensures next { row.new.seen ≡ i + 1 }
+        ensures least { HasSeen (ways_of (curve_of self.now) multiplier) row.old
+            → HasSeen (ways_of (curve_of self.now) multiplier) row.new }
+    {
+        if self.is_plain(i) {
+            self.hand_plain(multiplier, i, row);
+        } else {
+            self.hand_near(multiplier, i, row);
+        }
+    }
+
+    /// Is a lot of distance of asset `i` the same as one more lot, or has distance no price?
+    fn is_plain(&self, i: u16) -> bool
+        requires { i < length self.now.part.now }
+        ensures { IsTrue result → IsPlain (curve_of self.now) i }
+    {
+        self.is_bare() || self.costs.present.get(i) == 0
+    }
+
+    /// Has distance no price, whatever the multiplier?
+    fn is_bare(&self) -> bool
+        ensures { IsTrue result → IsBare (curve_of self.now) }
+    {
+        match self.varied {
+            Varied::Lots => self.costs.distance_price == 0,
+            Varied::Distance => false,
+        }
+    }
+
+    /// Hands the row a cell whose asset costs and weighs nothing where it isn't held: its better end is the cheapest.
+    fn hand_plain(&self, multiplier: i128, i: u16, row: &mut LeastRow)
+        requires price { unsigned_abs (varied_price (curve_of self.now) +ℤ multiplier) ≤ most_price }
+        requires plain { IsPlain (curve_of self.now) i }
+        requires there { i < length self.now.part.now }
+        requires room { i < 256 }
+        requires next { row.old.seen ≡ i }
+        ensures next { row.new.seen ≡ i + 1 }
+        ensures least { HasSeen (ways_of (curve_of self.now) multiplier) row.old
+            → HasSeen (ways_of (curve_of self.now) multiplier) row.new }
+    {
+        match self.part.cell(i) {
+            Cell::Out => row.leave(0, 0),
+            Cell::Held { l, u } => {
+                let holding = self.end_offer(multiplier, i, l, u);
+                row.hold(holding.value, holding.weight);
+            }
+            Cell::Free { l, u } => {
+                let holding = self.end_offer(multiplier, i, l, u);
+                row.offer(holding.value, holding.weight, 0, 0);
+            }
+        }
+    }
+
+    /// What `l` or `u` lots of asset `i` cost, whichever is less.
+    fn end_offer(&self, multiplier: i128, i: u16, l: u16, u: u16) -> Offer
+        requires price { unsigned_abs (varied_price (curve_of self.now) +ℤ multiplier) ≤ most_price }
+        requires plain { IsPlain (curve_of self.now) i }
+        requires there { i < length self.now.part.now }
+        requires least { 1 ≤ l }
+        requires order { l ≤ u }
+        requires most { u ≤ 10000 }
+        ensures offer { result ≡ least_offer (curve_of self.now) multiplier i (Held l u) }
+        ensures value_small { unsigned_abs result.value ≤ 30000000000000000000000000000000000 }
+        ensures weight_small { unsigned_abs result.weight ≤ 20000 }
+    {
+        let plain = plain_at(&self.costs, self.varied, multiplier, i);
+        plain_offer(cheaper_end(&plain, l, u))
+    }
+
+    /// The same where the present lots matter.
+    fn hand_near(&self, multiplier: i128, i: u16, row: &mut LeastRow)
         requires price { unsigned_abs (varied_price (curve_of self.now) +ℤ multiplier) ≤ most_price }
         requires there { i < length self.now.part.now }
         requires room { i < 256 }
@@ -273,10 +277,6 @@ impl<'a> CostCurve<'a> {
         requires there { i < length self.now.part.now }
         ensures cost { (v : ℕ) → cost_by result v ≡ priced_of (curve_of self.now) multiplier i v }
         ensures present { result.present ≡ slice_index_or self.now.costs.present.now i 0 }
-        ensures linear { result.linear ≡ at self.now.costs.linear.now i
-            +ℤ lot_under self.now.varied (costs_with self.now.costs) multiplier }
-        ensures bend { result.bend ≡ at self.now.costs.bends.now i }
-        ensures price { result.price ≡ distance_under self.now.varied (costs_with self.now.costs) multiplier }
     {
         asset_at(&self.costs, self.varied, multiplier, i)
     }

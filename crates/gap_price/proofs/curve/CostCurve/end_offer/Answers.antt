@@ -9,17 +9,15 @@ pub returns-clause-offer : goal.returns-clause-offer
 returns-clause-offer c =
     let fm = c.ranges.multiplier in
     let k = curve_of c.args.self.now in
-    let a = c.asset_at-asset.result in
-    let same = simp to_z-of_z at c.asset_at-asset.ensures.cost in
-    let line = simp to_z-of_z at c.asset_at-asset.ensures.linear in
-    end_is k c.args.multiplier c.args.i c.args.l c.args.u a c.cheaper_end.result c.bare_offer.result line c.asset_at-asset.ensures.bend same c.cheaper_end.ensures.end c.bare_offer.ensures
+    let a = c.plain_at-plain.result in
+    let line = simp to_z-of_z at c.plain_at-plain.ensures.line in
+    end_is k c.args.multiplier c.args.i c.args.l c.args.u a.line a.bend c.cheaper_end.result c.plain_offer.result c.requires.plain (c.args.self.now.kept.costs_are.bends_signs c.args.i c.requires.there) c.requires.order line c.plain_at-plain.ensures.bend c.cheaper_end.ensures c.plain_offer.ensures
 
 pub returns-clause-value_small : goal.returns-clause-value_small
 returns-clause-value_small c =
     let fm = c.ranges.multiplier in
     let k = curve_of c.args.self.now in
-    let a = c.asset_at-asset.result in
-    let same = simp to_z-of_z at c.asset_at-asset.ensures.cost in
-    let line = simp to_z-of_z at c.asset_at-asset.ensures.linear in
-    let e = end_is k c.args.multiplier c.args.i c.args.l c.args.u a c.cheaper_end.result c.bare_offer.result line c.asset_at-asset.ensures.bend same c.cheaper_end.ensures.end c.bare_offer.ensures in
-    subst (λ (x : Offer). unsigned_abs x.value ≤ 30000000000000000000000000000000000) (sym e) (end_sizes k c.args.multiplier c.args.i c.args.l c.args.u c.args.self.now.kept.costs_are c.requires.there c.requires.price c.requires.order c.requires.most).0
+    let a = c.plain_at-plain.result in
+    let line = simp to_z-of_z at c.plain_at-plain.ensures.line in
+    let e = end_is k c.args.multiplier c.args.i c.args.l c.args.u a.line a.bend c.cheaper_end.result c.plain_offer.result c.requires.plain (c.args.self.now.kept.costs_are.bends_signs c.args.i c.requires.there) c.requires.order line c.plain_at-plain.ensures.bend c.cheaper_end.ensures c.plain_offer.ensures in
+    subst (λ (x : Offer). unsigned_abs x.value ≤ 30000000000000000000000000000000000) (sym e) (end_sizes k c.args.multiplier c.args.i c.args.l c.args.u c.args.self.now.kept.costs_are c.requires.there c.requires.price c.requires.least c.requires.order c.requires.most)

@@ -7,7 +7,7 @@ use Rattle.gap_relax.specs.Choices.{cell_at}
 use Rattle.gap_price.specs.CurveOf.{curve_of}
 use Rattle.gap_price.specs.Offers.{cost_by, least_offer, ways_of}
 use Rattle.gap_price.proofs.OfferLaws.{held_is, out_is, held_sizes, out_sizes, held_tells, out_tells}
-use Rattle.gap_price.proofs.curve.CostCurve.hand.Goals as goal
+use Rattle.gap_price.proofs.curve.CostCurve.hand_near.Goals as goal
 
 pub leave-requires-clause-cost : goal.leave-requires-clause-cost
 leave-requires-clause-cost c =
