@@ -110,6 +110,12 @@ away_is c d t v = cost_above c d t (pos 0) (pos v) (omega (arith, ints)) ∙ non
 pub bow_none : (c d : ℤ) → bow c d (pos 0) ≡ pos 0
 bow_none c d = omega (arith, linear)
 
+pub bow_factored : (c d v : ℤ) → (c -ℤ (d *ℤ v)) *ℤ v ≡ bow c d v
+bow_factored c d v = factored c d v
+  where
+    factored : (c d v : ℤ) → (c +ℤ neg_ℤ (d *ℤ v)) *ℤ v ≡ (c *ℤ v) +ℤ neg_ℤ (d *ℤ (v *ℤ v))
+    factored c d v = simp expand (omega (arith, linear))
+
 sum_of_ends : (d : ℤ) (l u : ℕ) → d *ℤ (pos u +ℤ pos l) ≡ d *ℤ pos (l + u)
 sum_of_ends d l u = ap (λ z. d *ℤ z) (omega (arith, ints))
 

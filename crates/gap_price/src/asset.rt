@@ -103,7 +103,7 @@ fn line(asset: &AssetCost, v: u16) -> i128
 }
 
 /// `v * v`
-pub(crate) fn squared(v: u16) -> u32
+fn squared(v: u16) -> u32
     requires { v ≤ 10000 }
     ensures value { result ≡ v * v }
     ensures small { result ≤ 100000000 }

@@ -9,7 +9,7 @@ ghost use Rattle.gap_price.specs.Costs.{most_price};
 ghost use Rattle.gap_price.specs.Curves.{costs_with, price_by, lot_under, distance_under};
 ghost use Rattle.gap_price.specs.Offers.{at_lots, plain_cost, end_lots, offer_with};
 
-use crate::asset::{bend_at, distance_price, linear_at, lot_price, squared};
+use crate::asset::{bend_at, distance_price, linear_at, lot_price};
 use crate::candidates::Candidate;
 use crate::costs::{Costs, Varied};
 use crate::offer::Offer;
@@ -41,22 +41,22 @@ pub(crate) fn plain_at(costs: &Costs<'_>, varied: Varied, multiplier: i128, i: u
     }
 }
 
-/// The price of `v` lots by the lot.
-fn line_of(plain: &Plain, v: u16) -> i128
-    requires { v ≤ 10000 }
-    ensures value { result ≡ plain.now.line *ℤ pos v }
-    ensures small { unsigned_abs result ≤ 22020000000000000000000000000000000 }
+/// What squares take off for each of `lots` lots.
+fn bent(plain: &Plain, lots: u16) -> i128
+    requires { lots ≤ 20000 }
+    ensures value { result ≡ plain.now.bend *ℤ pos lots }
+    ensures small { unsigned_abs result ≤ 128000000000000000000000000000 }
 {
-    plain.line * i128::from(v)
+    plain.bend * i128::from(lots)
 }
 
-/// What a square takes off so many times.
-fn bend_times(plain: &Plain, times: u32) -> i128
-    requires { times ≤ 100000000 }
-    ensures value { result ≡ plain.now.bend *ℤ pos times }
-    ensures small { unsigned_abs result ≤ 640000000000000000000000000000000 }
+/// So many lots at a price.
+fn priced(price: i128, v: u16) -> i128
+    requires price { unsigned_abs price ≤ 2400000000000000000000000000000 }
+    requires lots { v ≤ 10000 }
+    ensures { result ≡ price *ℤ pos v }
 {
-    plain.bend * i128::from(times)
+    price * i128::from(v)
 }
 
 /// The end of the range at which the cost is least: the upper one where the square takes off more than the lots cost.
@@ -66,7 +66,7 @@ fn end_at(plain: &Plain, l: u16, u: u16) -> u16
     ensures value { result ≡ end_lots plain.now.line plain.now.bend l u }
     ensures most { result ≤ 10000 }
 {
-    if plain.line < bend_times(plain, u32::from(l + u)) {
+    if plain.line < bent(plain, l + u) {
         u
     } else {
         l
@@ -78,7 +78,7 @@ fn cost_of(plain: &Plain, v: u16) -> i128
     requires { v ≤ 10000 }
     ensures { result ≡ plain_cost plain.now.line plain.now.bend v }
 {
-    line_of(plain, v) - bend_times(plain, squared(v))
+    priced(plain.line - bent(plain, v), v)
 }
 
 /// The end of the range at which the cost is least.

@@ -76,15 +76,17 @@ impl<'a> CostCurve<'a> {
             self.fewest.saturating_sub(self.held),
             self.most.saturating_sub(self.held),
         );
+        let bare = self.is_bare();
         for i in 0..self.part.len() {
-            self.hand(multiplier, i, &mut row);
+            self.hand(multiplier, bare, i, &mut row);
         }
         row.chosen()
     }
 
     /// Hands the row the cell at place `i`, with what it costs and weighs at the multiplier.
-    fn hand(&self, multiplier: i128, i: u16, row: &mut LeastRow)
+    fn hand(&self, multiplier: i128, bare: bool, i: u16, row: &mut LeastRow)
         requires price { unsigned_abs (varied_price (curve_of self.now) +ℤ multiplier) ≤ most_price }
+        requires bare { IsTrue bare → IsBare (curve_of self.now) }
         requires there { i < length self.now.part.now }
         requires room { i < 256 }
         requires next { row.old.seen ≡ i }
@@ -92,7 +94,7 @@ impl<'a> CostCurve<'a> {
         ensures least { HasSeen (ways_of (curve_of self.now) multiplier) row.old
             → HasSeen (ways_of (curve_of self.now) multiplier) row.new }
     {
-        if self.is_plain(i) {
+        if self.is_plain(bare, i) {
             self.hand_plain(multiplier, i, row);
         } else {
             self.hand_near(multiplier, i, row);
@@ -100,11 +102,12 @@ impl<'a> CostCurve<'a> {
     }
 
     /// Is a lot of distance of asset `i` the same as one more lot, or has distance no price?
-    fn is_plain(&self, i: u16) -> bool
-        requires { i < length self.now.part.now }
+    fn is_plain(&self, bare: bool, i: u16) -> bool
+        requires there { i < length self.now.part.now }
+        requires bare { IsTrue bare → IsBare (curve_of self.now) }
         ensures { IsTrue result → IsPlain (curve_of self.now) i }
     {
-        self.is_bare() || self.costs.present.get(i) == 0
+        bare || self.costs.present.get(i) == 0
     }
 
     /// Has distance no price, whatever the multiplier?

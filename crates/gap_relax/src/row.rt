@@ -2,9 +2,9 @@
 
 ghost use Rattle.std.specs.Prelude.{◌≡◌, ℕ, ◌+◌, ◌-◌, ◌*◌, ◌<◌, ◌≤◌, length, pos, ◌+ℤ◌, ◌≤ℤ◌, ◌<ℤ◌, unsigned_abs};
 ghost use Rattle.gap_base.specs.Sums.{sum_below};
-ghost use Rattle.gap_relax.specs.Rows.{AreSmallExtras, difference_at, slope_at};
+ghost use Rattle.gap_relax.specs.Rows.{AreSmallExtras, IsBar, IsKept, IsSmallExtra, difference_at, slope_at};
 
-use crate::extra::{Extra, extra_of, keep_extra, no_extras};
+use crate::extra::{Extra, bar_of, extra_of, first_bar, keep_extra, no_extras};
 use crate::ways::Chosen;
 
 /// The least costs of the cells that were handed in so far, for each number of free ones held up to 32: a cost that every
@@ -19,6 +19,7 @@ pub struct LeastRow {
     pub(crate) slope: i128,
     pub(crate) count: usize,
     pub(crate) extras: [Extra; 32],
+    bar: i128,
     pub ghost order: { fewest ≤ most },
     pub ghost most_few: { most ≤ 32 },
     pub ghost seen_few: { seen ≤ 256 },
@@ -26,6 +27,7 @@ pub struct LeastRow {
     pub ghost slope_small: { unsigned_abs slope ≤ seen * 20000 },
     pub ghost count_few: { count ≤ most },
     pub ghost extras_small: { AreSmallExtras count extras },
+    pub ghost barred: { IsBar count most extras bar },
 }
 
 impl LeastRow {
@@ -52,6 +54,7 @@ impl LeastRow {
             slope: 0,
             count: 0,
             extras: no_extras(),
+            bar: first_bar(most),
         }
     }
 
@@ -94,7 +97,23 @@ impl LeastRow {
     {
         self.add(out_cost, out_slope);
         let extra = extra_of(held_cost, held_slope, out_cost, out_slope);
+        if extra.difference < self.bar {
+            self.keep(extra);
+        }
+    }
+
+    /// Keeps an extra among those of the row, of which the last one is dropped where no more are to be kept.
+    fn keep(&mut self, extra: Extra)
+        requires { IsSmallExtra extra }
+        ensures seen { self.new.seen ≡ self.old.seen }
+        ensures value { self.new.value ≡ self.old.value }
+        ensures slope { self.new.slope ≡ self.old.slope }
+        ensures fewest { self.new.fewest ≡ self.old.fewest }
+        ensures most { self.new.most ≡ self.old.most }
+        ensures kept { IsKept self.old.extras self.new.extras self.old.count self.new.count self.old.most extra }
+    {
         self.count = keep_extra(&mut self.extras, self.count, self.most, extra);
+        self.bar = bar_of(&self.extras, self.count, self.most);
     }
 
     /// The least cost over the ways to hold the cells that were handed in, with the slope of one that has it. It costs
@@ -120,6 +139,7 @@ impl LeastRow {
         ensures most { self.new.most ≡ self.old.most }
         ensures count { self.new.count ≡ self.old.count }
         ensures extras { self.new.extras ≡ self.old.extras }
+        ensures bar { self.new.bar ≡ self.old.bar }
     {
         self.value += cost;
         self.slope += i128::from(slope);
