@@ -1,5 +1,5 @@
 -- Laws of plain instances.
-use Rattle.std.proofs.Common.{add-one, ◌≡◌, ◌≢◌, ℕ, zero, suc, ◌+◌, ◌*◌, ◌<◌, ◌≤◌, ◌==◌, if◌then◌else◌, Bool, true, false, cond, List, length, take, replicate, slice_index_or, slice_set, ℤ, pos, ◌+ℤ◌, ◌≤ℤ◌, refl, sym, ap, ◌∙◌, subst, arith}
+use Rattle.std.proofs.Common.{add-one, ◌≡◌, ◌≢◌, ℕ, zero, suc, ◌+◌, ◌*◌, ◌<◌, ◌≤◌, ◌==◌, if◌then◌else◌, Bool, true, false, cond, List, length, replicate, slice_index_or, slice_set, ℤ, pos, ◌+ℤ◌, refl, sym, ap, ◌∙◌, subst, arith}
 use Rattle.std.specs.List.{list_any}
 use Rattle.std.proofs.Math.Nat.{le_of_mul-le-mul_left}
 use Rattle.std.proofs.Math.Seq.{take-length}
@@ -11,7 +11,7 @@ use Rattle.gap_base.specs.Sums.{sum_below, count_if}
 use Rattle.gap_base.proofs.Counts.{count_all, count_same}
 use Rattle.gap_instance.specs.declared.order.By.{By}
 use Rattle.gap_instance.specs.Instances.{InstanceValue, IsInstance}
-use Rattle.gap_instance.specs.Orders.{CanBeHeld, IsOrder, holds, sum_held, HeldGiveList, GivesList, SomeOrderGives}
+use Rattle.gap_instance.specs.Orders.{CanBeHeld, IsOrder, holds, sum_held, GivesList, SomeOrderGives}
 use Rattle.gap_instance.specs.Selections.{is_marked}
 use Rattle.gap_start.specs.Plain.{IsPlain}
 use Rattle.gap_start.specs.Starts.{AreMarks}

@@ -8,10 +8,12 @@ ghost use Rattle.gap_instance.specs.declared.order.By.{By};
 ghost use Rattle.gap_instance.specs.Instances.{IsInstance};
 ghost use Rattle.gap_instance.specs.Limits.{MeetsLimits, sum_of, turnover_of};
 ghost use Rattle.gap_instance.specs.Neighbours.{HasNoBetterNeighbour};
+ghost use Rattle.gap_instance.specs.Objective.{objective};
 ghost use Rattle.gap_instance.specs.Orders.{first_lots, sum_held, HeldGiveList, IsOrder, GivesList, SomeOrderGives};
 ghost use Rattle.gap_instance.specs.Selections.{is_marked};
+ghost use Rattle.gap_start.specs.Fills.{IsBroughtToSum};
 ghost use Rattle.gap_start.specs.Plain.{IsPlain};
-ghost use Rattle.gap_start.specs.Starts.{AreFirst, AreMarks, IsFirstList, IsStart, IsStartOf};
+ghost use Rattle.gap_start.specs.Starts.{AreFirst, AreMarks, IsFirstList, IsFirstStart, IsStart, IsStartBy, IsStartOf, IsStartWith};
 
 use crate::fill::brought;
 use crate::polishing::polish;
@@ -26,6 +28,9 @@ pub fn start(inst: &Instance, w: Weight) -> Option<Lots>
     ensures none { IsNone result → SomeOrderGives inst.now w.p w.q → ⊥ }
     ensures plain { IsPlain inst.now → IsSome result }
     ensures some { IfSome result (IsStart inst.now w.p w.q) }
+
+    // It comes from the first order that gives a list, with the least number of assets for which one does.
+    ensures first { IfSome result (IsFirstStart inst.now w.p w.q) }
 {
     for k in inst.held()..inst.n() + 1 {
         if inst.held_most() < k {
@@ -45,7 +50,7 @@ fn start_with(inst: &Instance, w: Weight, k: u16) -> Option<Lots>
     requires most { k ≤ inst.now.held_most }
     ensures none { IsNone result → (by : By) (order : List ℕ) → GivesList inst.now w.p w.q by k order → ⊥ }
     ensures order { (by : By) × (order : List ℕ) × IsOrder inst.now w.p w.q by order }
-    ensures some { IfSome result (IsStart inst.now w.p w.q) }
+    ensures some { IfSome result (IsStartWith inst.now w.p w.q k) }
 {
     let first = start_by(inst, w, By::Key, k);
     if first.is_some() {
@@ -64,7 +69,7 @@ fn start_by(inst: &Instance, w: Weight, by: By, k: u16) -> Option<Lots>
     requires most { k ≤ inst.now.held_most }
     ensures none { IsNone result → (order : List ℕ) → GivesList inst.now w.p w.q by k order → ⊥ }
     ensures order { (order : List ℕ) × IsOrder inst.now w.p w.q by order }
-    ensures some { IfSome result (IsStart inst.now w.p w.q) }
+    ensures some { IfSome result (IsStartBy inst.now w.p w.q by k) }
 {
     let order = inst.order(w, by);
     if order.len() < k {
@@ -200,6 +205,8 @@ fn finished(inst: &Instance, w: Weight, marks: &Lots, first: &Lots) -> Lots
     requires gives { HeldGiveList inst.now (is_marked marks.now) }
     ensures meets { MeetsLimits inst.now result }
     ensures best { HasNoBetterNeighbour inst.now w.p w.q result }
+    ensures given { (x : List ℕ) × IsBroughtToSum inst.now w.p w.q marks.now first.now x
+        × (objective inst.now w.p w.q result ≤ℤ objective inst.now w.p w.q x) }
 {
     let mut holding = brought(inst, w, marks, first);
     polish(&mut holding);
