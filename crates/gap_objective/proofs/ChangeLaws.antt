@@ -1,13 +1,11 @@
 -- Laws of the slopes of the objective, and of the objective after the lots of one asset or of two changed.
-use Rattle.std.proofs.Common.{◌≡◌, ℕ, ◌-◌, ◌*◌, ◌<◌, ◌≤◌, ◌==◌, if◌then◌else◌, List, length, slice_index_or, slice_set, ℤ, pos, neg_ℤ, ◌+ℤ◌, ◌-ℤ◌, ◌*ℤ◌, ◌⊎◌, inl, inr, refl, sym, ap, ◌∙◌, arith, length-set, get_or-set_other}
-use Rattle.std.proofs.Math.IntN.{*ℤ_comm, *ℤ-zero}
+use Rattle.std.proofs.Common.{◌≡◌, ℕ, ◌-◌, ◌*◌, ◌<◌, List, length, slice_set, ℤ, pos, neg_ℤ, ◌+ℤ◌, ◌-ℤ◌, ◌*ℤ◌, ◌⊎◌, inl, inr, refl, sym, ap, ◌∙◌, arith, length-set, get_or-set_other}
 use Rattle.std.proofs.lemmas.Bool.{cases_eq}
-use Rattle.std.proofs.lemmas.Int.{ints}
-use Rattle.gap_base.specs.Sums.{sum_below, natural_at, unit}
+use Rattle.gap_base.specs.Sums.{sum_below, unit}
 use Rattle.gap_base.specs.Lots.{lots_at}
 use Rattle.gap_base.specs.Markets.{MarketValue, IsMarket, mean_of}
 use Rattle.gap_base.proofs.Lists.{natural_at-set}
-use Rattle.gap_base.proofs.Ring.{*ℤ_assoc, expand, pull, linear, if_same, if_other}
+use Rattle.gap_base.proofs.Ring.{expand, pull, linear, if_same, if_other}
 use Rattle.gap_base.proofs.SumLaws.{sum_same, sum-add, sum-scale_right, sum-unit}
 use Rattle.gap_instance.specs.Instances.{InstanceValue}
 use Rattle.gap_instance.specs.Objective.{cov_of, risk_of, return_of, objective}

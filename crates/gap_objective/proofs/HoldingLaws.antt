@@ -1,5 +1,5 @@
 -- Laws of what a holding keeps.
-use Rattle.std.proofs.Common.{◌≡◌, ℕ, ◌+◌, ◌-◌, ◌*◌, ◌<◌, ◌≤◌, List, length, replicate, slice_index_or, slice_set, ℤ, pos, ◌+ℤ◌, ◌-ℤ◌, ◌*ℤ◌, ◌⊎◌, inl, inr, sym, ap, ◌∙◌, arith, length-set, get_or-set_same, get_or-set_other, unsigned_abs}
+use Rattle.std.proofs.Common.{◌≡◌, ℕ, ◌+◌, ◌-◌, ◌*◌, ◌<◌, ◌≤◌, cond, nat_lt, List, length, replicate, slice_index_or, slice_set, ℤ, pos, ◌+ℤ◌, ◌-ℤ◌, ◌*ℤ◌, ◌⊎◌, inl, inr, sym, ap, ◌∙◌, arith, length-set, get_or-set_same, get_or-set_other, unsigned_abs}
 use Rattle.std.proofs.Math.IntN.{*ℤ-zero}
 use Rattle.std.proofs.lemmas.Bool.{cases_eq, cases_lt}
 use Rattle.std.proofs.lemmas.Int.{ints}
@@ -7,17 +7,19 @@ use Rattle.std.proofs.lemmas.List.{get_or-replicate, length-replicate, get_or_pa
 use native.Mathlib.Nat.{mul-le-mul}
 use Rattle.gap_base.specs.declared.weight.Weight.{Weight}
 use Rattle.gap_base.specs.Lots.{lots_at}
-use Rattle.gap_base.specs.Sums.{sum_below, at}
+use Rattle.gap_base.specs.Sums.{at}
 use Rattle.gap_base.specs.Markets.{MarketValue, mean_of}
+use Rattle.gap_base.proofs.Counts.{count_nowhere}
 use Rattle.gap_base.proofs.Machine.{unsigned_abs-product_le}
 use Rattle.gap_base.proofs.SumLaws.{sum_all_zero}
 use Rattle.gap_instance.specs.Instances.{InstanceValue, IsInstance, AreBetween}
+use Rattle.gap_instance.specs.Limits.{turnover_of}
 use Rattle.gap_instance.specs.Objective.{cov_of, risk_of, return_of, objective}
-use Rattle.gap_instance.proofs.ObjectiveLaws.{cov_of-symmetric}
 use Rattle.gap_instance.proofs.LimitLaws.{AreBetween-replicate}
 use Rattle.gap_instance.proofs.OrderLaws.{same_list}
-use Rattle.gap_objective.specs.Holdings.{HoldingValue, AreSlopes, IsKept, IsFront}
+use Rattle.gap_objective.specs.Holdings.{HoldingValue, AreSlopes, IsKept, IsFront, distance}
 use Rattle.gap_objective.specs.Slopes.{row_of, slope_of, IsChanged, AreShiftedBelow}
+use Rattle.gap_objective.proofs.CountLaws.{held_put, turnover_put}
 use Rattle.gap_objective.proofs.RiskLaws.{risk_of-rows, row_of-size, risk_of-within, return_of-within}
 use Rattle.gap_objective.proofs.ChangeLaws.{IsChanged-set, slope_changed}
 
@@ -39,11 +41,11 @@ objective-within I p q x known h k lots =
     let b = unsigned_abs-product_le (pos ((q - p) * 1000000000000 * I.lots)) (return_of I.market x) 2550000000000000000 2560000000000 (factor_small p q I.lots k known.limits_are.lots_most) (return_of-within I.market x known.market_is lots) in
     omega (arith, ints)
 
-pub kept_small : (I : InstanceValue) (p q : ℕ) (x : List ℕ) (slopes : List ℤ) (value : ℤ) → IsKept I p q x slopes value → unsigned_abs value ≤ 2000000000000000000000000000000000
-kept_small I p q x slopes value kept = rw kept.value_is (objective-within I p q x kept.instance_is kept.risk_weight kept.whole_weight kept.lots_are)
+pub kept_small : (I : InstanceValue) (p q : ℕ) (x : List ℕ) (slopes : List ℤ) (value : ℤ) (held turnover : ℕ) → IsKept I p q x slopes value held turnover → unsigned_abs value ≤ 2000000000000000000000000000000000
+kept_small I p q x slopes value held turnover kept = rw kept.value_is (objective-within I p q x kept.instance_is kept.risk_weight kept.whole_weight kept.lots_are)
 
-pub slopes_small : (I : InstanceValue) (p q : ℕ) (x : List ℕ) (slopes : List ℤ) (value : ℤ) → IsKept I p q x slopes value → (k : ℕ) → k < I.market.assets → unsigned_abs (at slopes k) ≤ 2000000000000000000000000000
-slopes_small I p q x slopes value kept k h = rw (kept.slopes_are k h) (slope_of-size I p q x k kept.instance_is kept.risk_weight kept.whole_weight kept.lots_are)
+pub slopes_small : (I : InstanceValue) (p q : ℕ) (x : List ℕ) (slopes : List ℤ) (value : ℤ) (held turnover : ℕ) → IsKept I p q x slopes value held turnover → (k : ℕ) → k < I.market.assets → unsigned_abs (at slopes k) ≤ 2000000000000000000000000000
+slopes_small I p q x slopes value held turnover kept k h = rw (kept.slopes_are k h) (slope_of-size I p q x k kept.instance_is kept.risk_weight kept.whole_weight kept.lots_are)
 
 -- ---- the list that holds nothing
 nothing_at : (n k : ℕ) → k < n → lots_at (replicate n 0) k ≡ pos 0
@@ -72,8 +74,8 @@ objective_nothing I p q =
     ∙ ap (λ r. r -ℤ (pos ((q - p) * 1000000000000 * I.lots) *ℤ pos 0)) (*ℤ-zero (pos p))
     ∙ ap (λ r. pos 0 -ℤ r) (*ℤ-zero (pos ((q - p) * 1000000000000 * I.lots)))
 
-pub IsKept-nothing : (I : InstanceValue) (p q : ℕ) (slopes : List ℤ) → IsInstance I → p ≤ 255 → q ≤ 255 → length slopes ≡ 256 → AreSlopes I p q (replicate I.market.assets 0) slopes → IsKept I p q (replicate I.market.assets 0) slopes (pos 0)
-IsKept-nothing I p q slopes known h k room are = record {
+pub IsKept-nothing : (I : InstanceValue) (p q : ℕ) (slopes : List ℤ) (turnover : ℕ) → IsInstance I → p ≤ 255 → q ≤ 255 → length slopes ≡ 256 → AreSlopes I p q (replicate I.market.assets 0) slopes → pos turnover ≡ turnover_of I.market.assets I.present (replicate I.market.assets 0) → IsKept I p q (replicate I.market.assets 0) slopes (pos 0) 0 turnover
+IsKept-nothing I p q slopes turnover known h k room are turned = record {
   risk_weight = h;
   whole_weight = k;
   instance_is = known;
@@ -81,6 +83,8 @@ IsKept-nothing I p q slopes known h k room are = record {
   room = room;
   slopes_are = are;
   value_is = sym (objective_nothing I p q);
+  held_is = sym (count_nowhere I.market.assets (λ i. nat_lt 0 (slice_index_or (replicate I.market.assets 0) i 0)) (λ i l. ap (nat_lt 0) (get_or-replicate I.market.assets i 0 0 l)));
+  turnover_is = turned;
 }
 
 -- ---- a list of numbers of at most 10000 stays one where one is set
@@ -96,8 +100,8 @@ AreBetween-set n v i x p h lots = record {
 }
 
 -- what is kept after asset i got v lots, which are d more
-pub IsKept-put : (I : InstanceValue) (p q : ℕ) (x : List ℕ) (slopes shifted : List ℤ) (value new d : ℤ) (i v : ℕ) → IsKept I p q x slopes value → i < I.market.assets → v ≤ 10000 → pos v ≡ lots_at x i +ℤ d → length shifted ≡ 256 → AreShiftedBelow I.market i I.market.assets (d *ℤ pos (2 * p)) slopes shifted → new ≡ objective I p q (slice_set x i v) → IsKept I p q (slice_set x i v) shifted new
-IsKept-put I p q x slopes shifted value new d i v kept h m e room are is =
+pub IsKept-put : (I : InstanceValue) (p q : ℕ) (x : List ℕ) (slopes shifted : List ℤ) (value new d : ℤ) (held turnover i v : ℕ) → IsKept I p q x slopes value held turnover → i < I.market.assets → v ≤ 10000 → pos v ≡ lots_at x i +ℤ d → length shifted ≡ 256 → AreShiftedBelow I.market i I.market.assets (d *ℤ pos (2 * p)) slopes shifted → new ≡ objective I p q (slice_set x i v) → IsKept I p q (slice_set x i v) shifted new ((held + cond (nat_lt 0 v) 1 0) - cond (nat_lt 0 (slice_index_or x i 0)) 1 0) ((turnover + distance v (slice_index_or I.present i 0)) - distance (slice_index_or x i 0) (slice_index_or I.present i 0))
+IsKept-put I p q x slopes shifted value new d held turnover i v kept h m e room are is =
     let changed : IsChanged x (slice_set x i v) d i = IsChanged-set x i v d (rw kept.lots_are.count h) e in
     record {
       risk_weight = kept.risk_weight;
@@ -107,6 +111,8 @@ IsKept-put I p q x slopes shifted value new d i v kept h m e room are is =
       room = room;
       slopes_are = λ k l. are.below k l ∙ ap (λ t. t +ℤ cov_of I.market k i *ℤ (d *ℤ pos (2 * p))) (kept.slopes_are k l) ∙ sym (slope_changed I p q x (slice_set x i v) d i k h changed);
       value_is = is;
+      held_is = held_put I.market.assets i v held x h (rw kept.lots_are.count h) kept.held_is;
+      turnover_is = turnover_put I.market.assets i v turnover I.present x h (rw kept.lots_are.count h) kept.turnover_is;
     }
 
 -- ---- a list that is filled from the front

@@ -1,4 +1,5 @@
 pub mod ChangeLaws
+pub mod CountLaws
 pub mod HoldingLaws
 pub mod RiskLaws
 pub mod FallLaws

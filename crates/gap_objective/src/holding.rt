@@ -1,13 +1,14 @@
 //! The objective of a list of lots that changes a few places at a time.
 
-ghost use Rattle.std.specs.Prelude.{◌≡◌, ◌≢◌, ℕ, ◌+◌, ◌-◌, ◌*◌, ◌<◌, ◌≤◌, List, length, ℤ, pos, ◌+ℤ◌, ◌-ℤ◌, ◌*ℤ◌, replicate, slice_index_or, slice_set, unsigned_abs, IsTrue, IsFalse, ◌↔◌, ◌<ℤ◌};
+ghost use Rattle.std.specs.Prelude.{◌≡◌, ◌≢◌, ℕ, ◌+◌, ◌-◌, ◌*◌, ◌<◌, ◌≤◌, cond, nat_lt, List, length, ℤ, pos, ◌+ℤ◌, ◌-ℤ◌, ◌*ℤ◌, replicate, slice_index_or, slice_set, unsigned_abs, IsTrue, IsFalse, ◌↔◌, ◌<ℤ◌};
 ghost use Rattle.gap_base.specs.Lots.{lots_at};
 ghost use Rattle.gap_base.specs.Sums.{at};
 ghost use Rattle.gap_instance.specs.Instances.{AreBetween, IsInstance};
+ghost use Rattle.gap_instance.specs.Limits.{held_of, turnover_of};
 ghost use Rattle.gap_instance.specs.Objective.{cov_of, objective};
 ghost use Rattle.gap_instance.specs.Neighbours.{lot_moved, lots_shifted, exchanged};
 ghost use Rattle.gap_objective.specs.Slopes.{slope_of, spread_of, AreShiftedBelow, StaysFrom};
-ghost use Rattle.gap_objective.specs.Holdings.{AreSlopes};
+ghost use Rattle.gap_objective.specs.Holdings.{AreSlopes, distance};
 
 use crate::terms::{bend, change, first_slope, reached, scale, shifted, spread, steepness};
 use gap_base::{Lots, Weight};
@@ -17,7 +18,8 @@ use std::marker::Model;
 /// A list of N numbers of lots of at most 10000 with its objective under a weight. Places of assets count from 0.
 ///
 /// Contracts see a holding as the record of its instance, its weight and its list. It keeps the objective and its slope
-/// at each asset: so the objective after a change of two places costs O(1), and the change O(N). It takes no memory.
+/// at each asset, the number of held assets and the turnover: so each of these after a change of two places costs O(1),
+/// and the change O(N). It takes no memory.
 #[derive(Drop)]
 pub struct Holding<'m> {
     inst: &'m Instance,
@@ -25,6 +27,8 @@ pub struct Holding<'m> {
     lots: Lots,
     slopes: [i128; 256],
     value: i128,
+    held: u16,
+    turnover: u32,
 }
 
 impl<'m> Model for Holding<'m> {
@@ -34,7 +38,7 @@ impl<'m> Model for Holding<'m> {
 
     ghost view = { λ a. record { instance = a.inst.now; weight = a.weight; lots = a.lots } };
 
-    ghost invariant = { λ a. IsKept a.inst.now a.weight.p a.weight.q a.lots a.slopes a.value };
+    ghost invariant = { λ a. IsKept a.inst.now a.weight.p a.weight.q a.lots a.slopes a.value a.held a.turnover };
 }
 
 impl<'m> Holding<'m> {
@@ -56,12 +60,16 @@ impl<'m> Holding<'m> {
     fn nothing(inst: &'m Instance, w: Weight) -> Holding<'m>
         ensures { result ≡ record { instance = inst.now; weight = w; lots = replicate inst.now.market.assets 0 } }
     {
+        let lots = Lots::zeros(inst.n());
+        let turnover = inst.turnover_to(&lots);
         Holding {
             inst,
             weight: w,
-            lots: Lots::zeros(inst.n()),
+            lots,
             slopes: first_slopes(inst, w.p, w.q),
             value: 0,
+            held: 0,
+            turnover,
         }
     }
 
@@ -94,6 +102,36 @@ impl<'m> Holding<'m> {
         ensures small { unsigned_abs result ≤ 2000000000000000000000000000000000 }
     {
         self.value
+    }
+
+    /// How many assets the present list holds. Costs O(1).
+    pub fn held(&self) -> u16
+        ensures { result ≡ held_of self.now.instance.market.assets self.now.lots }
+    {
+        self.held
+    }
+
+    /// The turnover from the present lots of the instance to the list. Costs O(1).
+    pub fn turnover(&self) -> u32
+        ensures value { pos result
+            ≡ turnover_of self.now.instance.market.assets self.now.instance.present self.now.lots }
+        ensures small { result ≤ 2560000 }
+    {
+        self.turnover
+    }
+
+    /// The turnover to the list that has `given` lots in asset `i` and `taken` lots in asset `j`. Costs O(1).
+    pub fn turnover_with(&self, i: u16, given: u16, j: u16, taken: u16) -> u32
+        requires other { i ≢ j }
+        requires first { i < self.now.instance.market.assets }
+        requires second { j < self.now.instance.market.assets }
+        ensures { pos result ≡ turnover_of self.now.instance.market.assets self.now.instance.present
+            (slice_set (slice_set self.now.lots i given) j taken) }
+    {
+        let inst = self.instance();
+        let lots = self.lots();
+        let once = turnover_after(self.turnover(), inst.present(i), lots.get(i), given);
+        turnover_after(once, inst.present(j), lots.get(j), taken)
     }
 
     /// The slope of the objective at asset `i`.
@@ -191,8 +229,11 @@ impl<'m> Holding<'m> {
         ensures { self.new ≡ record self.old { lots = slice_set self.old.lots i lots } }
     {
         let value = self.put_value(i, lots);
-        let moved = change(lots, self.lots.get(i));
+        let before = self.lots.get(i);
+        let moved = change(lots, before);
         shift(&mut self.slopes, self.inst, i, scale(self.weight.p, moved));
+        self.held = counted(self.held, before, lots);
+        self.turnover = turnover_after(self.turnover, self.inst.present(i), before, lots);
         self.lots.set(i, lots);
         self.value = value;
     }
@@ -223,6 +264,32 @@ impl<'m> Holding<'m> {
         self.put(i, to);
         self.put(j, from);
     }
+}
+
+/// How many assets are held, where `held` are and one of them goes from `before` to `lots` lots.
+fn counted(held: u16, before: u16, lots: u16) -> u16
+    requires { held ≤ 256 }
+    ensures { result ≡ (held + cond (nat_lt 0 lots) 1 0) - cond (nat_lt 0 before) 1 0 }
+{
+    (held + one_if(0 < lots)).saturating_sub(one_if(0 < before))
+}
+
+/// One where an asset is held, else zero.
+fn one_if(held: bool) -> u16
+    ensures value { result ≡ cond held 1 0 }
+    ensures small { result ≤ 1 }
+{
+    if held { 1 } else { 0 }
+}
+
+/// The turnover where one asset goes from `before` to `lots` lots.
+fn turnover_after(turnover: u32, present: u16, before: u16, lots: u16) -> u32
+    requires { turnover ≤ 4000000 }
+    ensures value { result ≡ (turnover + distance lots present) - distance before present }
+    ensures small { result ≤ turnover + 65535 }
+{
+    let more = u32::from(lots.abs_diff(present));
+    (turnover + more).saturating_sub(u32::from(before.abs_diff(present)))
 }
 
 /// The slopes of the objective of the list that holds nothing.

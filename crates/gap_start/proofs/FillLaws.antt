@@ -1,16 +1,17 @@
 -- Laws of lists that come to their sum lot by lot.
-use Rattle.std.proofs.Common.{◌≡◌, ℕ, zero, suc, add-one, suc-add, zero-add, ◌<ℤ◌, ◌+◌, ◌-◌, ◌<◌, ◌≤◌, ◌==◌, if◌then◌else◌, Bool, true, false, nat_lt, List, length, slice_index_or, slice_set, Option, None, Some, ℤ, pos, ◌+ℤ◌, ◌-ℤ◌, ◌≤ℤ◌, ◌⊎◌, inl, inr, refl, sym, ap, ◌∙◌, subst, arith, length-set, get_or-set_same, get_or-set_other}
+use Rattle.std.proofs.Common.{◌≡◌, ℕ, zero, suc, add-one, suc-add, zero-add, ◌<ℤ◌, ◌+◌, ◌-◌, ◌<◌, ◌≤◌, if◌then◌else◌, Bool, true, false, nat_lt, List, length, slice_index_or, slice_set, Option, None, Some, ℤ, pos, ◌+ℤ◌, ◌-ℤ◌, ◌≤ℤ◌, ◌⊎◌, inl, inr, refl, sym, ap, ◌∙◌, subst, arith, length-set, get_or-set_same, get_or-set_other}
 use Rattle.std.proofs.lemmas.Bool.{cases_lt, cases_eq}
 use Rattle.std.proofs.lemmas.Bool.Decides.{nat_tests}
 use Rattle.std.proofs.lemmas.Int.{ints}
 use Rattle.gap_base.specs.Lots.{lots_at}
-use Rattle.gap_base.specs.Sums.{sum_below, abs_z}
-use Rattle.gap_base.proofs.Ring.{if_same, if_other, linear}
-use Rattle.gap_base.proofs.SumLaws.{sum_same, sum_split, sum_le}
+use Rattle.gap_base.specs.Sums.{abs_z}
+use Rattle.gap_base.proofs.Ring.{linear}
+use Rattle.gap_base.proofs.SumLaws.{sum_le}
 use Rattle.gap_instance.specs.Instances.{InstanceValue, IsInstance}
 use Rattle.gap_instance.specs.Objective.{objective}
 use Rattle.gap_instance.specs.Orders.{sum_held}
 use Rattle.gap_instance.specs.Selections.{is_marked}
+use Rattle.gap_objective.proofs.CountLaws.{sum_set}
 use Rattle.gap_start.specs.declared.fill.Change.{Change}
 use Rattle.gap_start.specs.Fills.{HoldsWithin, CanGo, IsLookedAt, IsBestToGo, changed_at, gone, IsStuck, IsSoFar, IsStep, IsBrought, IsBroughtToSum, toward, RoomFor, IsFilled}
 
@@ -18,19 +19,6 @@ use Rattle.gap_start.specs.Fills.{HoldsWithin, CanGo, IsLookedAt, IsBestToGo, ch
 pub at_set : (x : List ℕ) (i k v : ℕ) → i < length x → (k ≡ i) ⊎ (k ≡ i → ⊥) → (P : ℕ → Type 0) → (k ≡ i → P v) → ((k ≡ i → ⊥) → P (slice_index_or x k 0)) → P (slice_index_or (slice_set x i v) k 0)
 at_set x i k v h (inl e) P here there = rw (e, get_or-set_same x i v 0 h) (here e)
 at_set x i k v h (inr n) P here there = rw (get_or-set_other x i k v 0 n) (there n)
-
-rest_same : (h : ℕ → ℕ → ℤ) (x : List ℕ) (i v k : ℕ) → (k ≡ i) ⊎ (k ≡ i → ⊥) → (if k == i then pos 0 else h k (slice_index_or (slice_set x i v) k 0)) ≡ (if k == i then pos 0 else h k (slice_index_or x k 0))
-rest_same h x i v k (inl e) = if_same k i (pos 0) (h k (slice_index_or (slice_set x i v) k 0)) e ∙ sym (if_same k i (pos 0) (h k (slice_index_or x k 0)) e)
-rest_same h x i v k (inr n) = if_other k i (pos 0) (h k (slice_index_or (slice_set x i v) k 0)) n ∙ ap (h k) (get_or-set_other x i k v 0 n) ∙ sym (if_other k i (pos 0) (h k (slice_index_or x k 0)) n)
-
--- a sum over a list after one number was set
-pub sum_set : (n i v : ℕ) (h : ℕ → ℕ → ℤ) (x : List ℕ) → i < n → i < length x → sum_below n (λ k. h k (slice_index_or (slice_set x i v) k 0)) ≡ sum_below n (λ k. h k (slice_index_or x k 0)) +ℤ (h i v -ℤ h i (slice_index_or x i 0))
-sum_set n i v h x p q =
-    let a = sum_split n i (λ k. h k (slice_index_or (slice_set x i v) k 0)) p in
-    let b = sum_split n i (λ k. h k (slice_index_or x k 0)) p in
-    let c = sum_same n (λ k. if k == i then pos 0 else h k (slice_index_or (slice_set x i v) k 0)) (λ k. if k == i then pos 0 else h k (slice_index_or x k 0)) (λ k l. rest_same h x i v k (cases_eq k i)) in
-    let d = ap (h i) (get_or-set_same x i v 0 q) in
-    omega (arith, linear)
 
 HoldsWithin-set : (I : InstanceValue) (marks x : List ℕ) (i v : ℕ) → HoldsWithin I marks x → i < I.market.assets → 0 < slice_index_or marks i 0 → slice_index_or I.least i 0 ≤ v → v ≤ slice_index_or I.greatest i 0 → HoldsWithin I marks (slice_set x i v)
 HoldsWithin-set I marks x i v within h m l g =

@@ -1,8 +1,8 @@
 -- Laws of the lists that a search starts from.
-use Rattle.std.proofs.Common.{◌≡◌, ◌≢◌, ℕ, ◌+◌, ◌-◌, ◌<◌, ◌≤◌, ◌==◌, if◌then◌else◌, min, max, Bool, true, false, not, ◌||◌, cond, nat_lt, List, length, replicate, slice_index_or, slice_set, Option, None, Some, ℤ, pos, ◌+ℤ◌, ◌-ℤ◌, ◌≤ℤ◌, ◌⊎◌, inl, inr, refl, sym, ap, ◌∙◌, subst, arith, length-set, get_or-set_same, get_or-set_other, IsTrue}
+use Rattle.std.proofs.Common.{◌≡◌, ◌≢◌, ℕ, ◌+◌, ◌-◌, ◌<◌, ◌≤◌, ◌==◌, if◌then◌else◌, min, max, Bool, true, false, not, ◌||◌, cond, nat_lt, List, length, replicate, slice_index_or, slice_set, Option, None, Some, ℤ, pos, ◌+ℤ◌, ◌-ℤ◌, ◌≤ℤ◌, ◌⊎◌, inl, inr, refl, sym, ap, ◌∙◌, subst, arith, length-set, get_or-set_same, get_or-set_other, IsTrue, IsNone, is_some}
 use Rattle.std.proofs.Math.Dec.{leb}
 use Rattle.std.specs.Option.{ForSome}
-use Rattle.std.proofs.lemmas.Bool.{cases_lt, cases_eq, leb-true, le-leb}
+use Rattle.std.proofs.lemmas.Bool.{cases_lt, cases_eq, false≢true, leb-true, le-leb}
 use Rattle.std.proofs.lemmas.Bool.Decides.{nat_tests}
 use Rattle.std.proofs.lemmas.Int.{ints}
 use Rattle.std.proofs.lemmas.List.{get_or-replicate, length-replicate, get_or_past}
@@ -14,11 +14,13 @@ use Rattle.gap_base.proofs.SumLaws.{sum_same, sum-add}
 use Rattle.gap_base.proofs.Counts.{count_split, count_same, count_nowhere}
 use Rattle.gap_instance.specs.Instances.{InstanceValue, IsInstance, AreBetween}
 use Rattle.gap_instance.specs.Limits.{MeetsLimits, sum_of, held_of, turnover_of}
-use Rattle.gap_instance.specs.Orders.{first_lots, holds, sum_held, start_turnover, HeldGiveList}
+use Rattle.gap_instance.specs.declared.order.By.{By}
+use Rattle.gap_instance.specs.declared.order.By.TheVariants.{Key, Least, Greatest}
+use Rattle.gap_instance.specs.Orders.{first_lots, holds, sum_held, start_turnover, HeldGiveList, GivesList}
 use Rattle.gap_instance.specs.Selections.{is_marked}
 use Rattle.gap_start.specs.Fills.{HoldsWithin, LeadsAway, toward, RoomFor, IsFilled, IsBroughtToSum}
 use Rattle.gap_start.proofs.FillLaws.{filled_brought}
-use Rattle.gap_start.specs.Starts.{AreMarks, AreFirst, IsFirstList}
+use Rattle.gap_start.specs.Starts.{AreMarks, AreFirst, IsFirstList, IsFirstStart, IsStartBy, IsStartOf, IsStartWith, turn_of}
 
 -- ---- what an asset gets at first
 lots_within : (I : InstanceValue) (o : Option ℕ) (i : ℕ) → slice_index_or I.least i 0 ≤ slice_index_or I.greatest i 0 → (slice_index_or I.least i 0 ≤ first_lots I o i) × (first_lots I o i ≤ slice_index_or I.greatest i 0)
@@ -262,3 +264,38 @@ too_many I f least a l gives = let b = gives.least_fits in omega (arith, ints)
 
 pub too_few : (I : InstanceValue) (f : ℕ → Bool) (greatest : ℕ) → pos greatest ≡ sum_held I f (lots_at I.greatest) → greatest < I.lots → HeldGiveList I f → ⊥
 too_few I f greatest a l gives = let b = gives.greatest_fits in omega (arith, ints)
+
+-- ---- where a start comes from
+pub start_by_order : (I : InstanceValue) (p q : ℕ) (by : By) (k : ℕ) (order marks x : List ℕ) → I.held ≤ k → k ≤ I.held_most → GivesList I p q by k order → AreMarks I.market.assets order k marks → IsStartOf I p q marks x → IsStartBy I p q by k x
+start_by_order I p q by k order marks x fewest most gives are s = record {
+  start = record { gives = (by, k, order, fewest, most, gives); meets = s.meets; best = s.best };
+  given = s.given;
+  given_is = record { order = order; gives = gives; marks = marks; marks_are = are; first = s.first; first_is = s.first_is; brought = s.brought };
+  better = s.better;
+}
+
+pub first_by_key : (I : InstanceValue) (p q k : ℕ) (x : List ℕ) → IsStartBy I p q Key k x → IsStartWith I p q k x
+first_by_key I p q k x s = record { by = Key; from = s; first = λ by order l. absurd (omega arith) }
+
+no_turn : (I : InstanceValue) (p q k : ℕ) (by : By) (order : List ℕ) → ((order : List ℕ) → GivesList I p q Key k order → ⊥) → turn_of by < 1 → GivesList I p q by k order → ⊥
+no_turn I p q k Key order none l gives = none order gives
+no_turn I p q k Least order none l gives = absurd (omega arith)
+no_turn I p q k Greatest order none l gives = absurd (omega arith)
+
+pub second_by_least : (I : InstanceValue) (p q k : ℕ) (x : List ℕ) → ((order : List ℕ) → GivesList I p q Key k order → ⊥) → IsStartBy I p q Least k x → IsStartWith I p q k x
+second_by_least I p q k x none s = record { by = Least; from = s; first = λ by order l. no_turn I p q k by order none l }
+
+no_two_turns : (I : InstanceValue) (p q k : ℕ) (by : By) (order : List ℕ) → ((order : List ℕ) → GivesList I p q Key k order → ⊥) → ((order : List ℕ) → GivesList I p q Least k order → ⊥) → turn_of by < 2 → GivesList I p q by k order → ⊥
+no_two_turns I p q k Key order none nor l gives = none order gives
+no_two_turns I p q k Least order none nor l gives = nor order gives
+no_two_turns I p q k Greatest order none nor l gives = absurd (omega arith)
+
+pub third_by_greatest : (I : InstanceValue) (p q k : ℕ) (x : List ℕ) → ((order : List ℕ) → GivesList I p q Key k order → ⊥) → ((order : List ℕ) → GivesList I p q Least k order → ⊥) → IsStartBy I p q Greatest k x → IsStartWith I p q k x
+third_by_greatest I p q k x none nor s = record { by = Greatest; from = s; first = λ by order l. no_two_turns I p q k by order none nor l }
+
+pub first_start : (I : InstanceValue) (p q k : ℕ) (x : List ℕ) → I.held ≤ k → ((j : ℕ) → I.held ≤ j → j < k → (by : By) (order : List ℕ) → GivesList I p q by j order → ⊥) → IsStartWith I p q k x → IsFirstStart I p q x
+first_start I p q k x fewest none s = record { count = k; fewest = fewest; from = s; fewer = λ j l m by order t gives. none j l m by order gives }
+
+pub not_some : (o : Option (List ℕ)) (b : Bool) → b ≡ is_some o → b ≡ false → IsNone o
+not_some None b e f = refl
+not_some (Some x) b e f = absurd (false≢true (sym f ∙ e))

@@ -1,7 +1,7 @@
 -- Steps from a list of lots to its neighbours. Own to portgap.
 use Rattle.std.specs.Prelude.{◌≡◌, ◌≢◌, ℕ, ◌<◌, ◌≤◌, ◌⊎◌, List, length, slice_index_or, Option, None, Some, ℤ, pos, ◌+ℤ◌, ◌≤ℤ◌, ◌<ℤ◌, unsigned_abs}
 use Rattle.gap_instance.specs.Instances.{InstanceValue}
-use Rattle.gap_instance.specs.Limits.{MeetsLimits}
+use Rattle.gap_instance.specs.Limits.{MeetsLimits, held_of}
 use Rattle.gap_instance.specs.Neighbours.{lot_moved, exchanged}
 use Rattle.gap_instance.specs.Objective.{objective}
 use Rattle.gap_start.specs.declared.step.Found.{Found}
@@ -19,12 +19,14 @@ abbrev pub stepped : List ℕ → Kind → ℕ → ℕ → List ℕ
 stepped x Move i j = lot_moved x i j
 stepped x Replace i j = exchanged x i j
 
--- there is such a step, asset j has room for what it gets, and asset i may keep what it has left
+-- there is such a step, asset j has room for what it gets, and asset i may keep what it has left: no lot only where x
+-- holds more than K1 assets
 abbrev pub HasRoom : InstanceValue → List ℕ → Kind → ℕ → ℕ → Type 0
 HasRoom I x Move i j =
     (i ≢ j) × (0 < slice_index_or x i 0) × (0 < slice_index_or x j 0)
     × (slice_index_or x j 0 < slice_index_or I.greatest j 0)
-    × (slice_index_or x i 0 ≡ 1 ⊎ slice_index_or I.least i 0 < slice_index_or x i 0)
+    × ((slice_index_or I.least i 0 < slice_index_or x i 0)
+    ⊎ ((slice_index_or x i 0 ≡ 1) × (I.held < held_of I.market.assets x)))
 HasRoom I x Replace i j =
     (0 < slice_index_or x i 0) × (slice_index_or x j 0 ≡ 0) × (slice_index_or I.least j 0 ≤ slice_index_or x i 0)
     × (slice_index_or x i 0 ≤ slice_index_or I.greatest j 0)

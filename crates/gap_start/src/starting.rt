@@ -1,6 +1,6 @@
 //! A list to start a search from.
 
-ghost use Rattle.std.specs.Prelude.{◌≡◌, ◌≢◌, ℕ, ◌<◌, ◌≤◌, ◌↔◌, List, length, slice_index_or, IsTrue, IsNone, IfSome, pos, ◌+ℤ◌, ◌-ℤ◌, ◌≤ℤ◌, if◌then◌else◌, nat_lt};
+ghost use Rattle.std.specs.Prelude.{◌≡◌, ◌≢◌, ℕ, ◌<◌, ◌≤◌, ◌↔◌, List, length, slice_index_or, IsTrue, IsNone, IsSome, IfSome, pos, ◌+ℤ◌, ◌-ℤ◌, ◌≤ℤ◌, if◌then◌else◌, nat_lt};
 ghost use Rattle.std.specs.Option.{ForSome};
 ghost use Rattle.gap_base.specs.Lots.{lots_at};
 ghost use Rattle.gap_base.specs.Sums.{abs_z};
@@ -8,9 +8,12 @@ ghost use Rattle.gap_instance.specs.declared.order.By.{By};
 ghost use Rattle.gap_instance.specs.Instances.{IsInstance};
 ghost use Rattle.gap_instance.specs.Limits.{MeetsLimits, sum_of, turnover_of};
 ghost use Rattle.gap_instance.specs.Neighbours.{HasNoBetterNeighbour};
-ghost use Rattle.gap_instance.specs.Orders.{first_lots, sum_held, HeldGiveList, GivesList, SomeOrderGives};
+ghost use Rattle.gap_instance.specs.Objective.{objective};
+ghost use Rattle.gap_instance.specs.Orders.{first_lots, sum_held, HeldGiveList, IsOrder, GivesList, SomeOrderGives};
 ghost use Rattle.gap_instance.specs.Selections.{is_marked};
-ghost use Rattle.gap_start.specs.Starts.{AreFirst, AreMarks, IsFirstList, IsStart, IsStartOf};
+ghost use Rattle.gap_start.specs.Fills.{IsBroughtToSum};
+ghost use Rattle.gap_start.specs.Plain.{IsPlain};
+ghost use Rattle.gap_start.specs.Starts.{AreFirst, AreMarks, IsFirstList, IsFirstStart, IsStart, IsStartBy, IsStartOf, IsStartWith};
 
 use crate::fill::brought;
 use crate::polishing::polish;
@@ -19,10 +22,15 @@ use gap_instance::{By, Instance, Order, total_of};
 
 /// A list that meets the limits and has no better neighbour. For each number of assets from K1 to K2 the orders by key, by
 /// least and by greatest are tried in turn; the first list that one gives is polished. None comes exactly where no order
-/// gives a list with any of these numbers. Costs O(N * N) for each order that is tried, and takes no memory.
+/// gives a list with any of these numbers, so never for a plain instance. Costs O(N * N) for each order that is tried, and
+/// takes no memory.
 pub fn start(inst: &Instance, w: Weight) -> Option<Lots>
     ensures none { IsNone result → SomeOrderGives inst.now w.p w.q → ⊥ }
+    ensures plain { IsPlain inst.now → IsSome result }
     ensures some { IfSome result (IsStart inst.now w.p w.q) }
+
+    // It comes from the first order that gives a list, with the least number of assets for which one does.
+    ensures first { IfSome result (IsFirstStart inst.now w.p w.q) }
 {
     for k in inst.held()..inst.n() + 1 {
         if inst.held_most() < k {
@@ -41,7 +49,8 @@ fn start_with(inst: &Instance, w: Weight, k: u16) -> Option<Lots>
     requires least { inst.now.held ≤ k }
     requires most { k ≤ inst.now.held_most }
     ensures none { IsNone result → (by : By) (order : List ℕ) → GivesList inst.now w.p w.q by k order → ⊥ }
-    ensures some { IfSome result (IsStart inst.now w.p w.q) }
+    ensures order { (by : By) × (order : List ℕ) × IsOrder inst.now w.p w.q by order }
+    ensures some { IfSome result (IsStartWith inst.now w.p w.q k) }
 {
     let first = start_by(inst, w, By::Key, k);
     if first.is_some() {
@@ -59,7 +68,8 @@ fn start_by(inst: &Instance, w: Weight, by: By, k: u16) -> Option<Lots>
     requires least { inst.now.held ≤ k }
     requires most { k ≤ inst.now.held_most }
     ensures none { IsNone result → (order : List ℕ) → GivesList inst.now w.p w.q by k order → ⊥ }
-    ensures some { IfSome result (IsStart inst.now w.p w.q) }
+    ensures order { (order : List ℕ) × IsOrder inst.now w.p w.q by order }
+    ensures some { IfSome result (IsStartBy inst.now w.p w.q by k) }
 {
     let order = inst.order(w, by);
     if order.len() < k {
@@ -195,6 +205,8 @@ fn finished(inst: &Instance, w: Weight, marks: &Lots, first: &Lots) -> Lots
     requires gives { HeldGiveList inst.now (is_marked marks.now) }
     ensures meets { MeetsLimits inst.now result }
     ensures best { HasNoBetterNeighbour inst.now w.p w.q result }
+    ensures given { (x : List ℕ) × IsBroughtToSum inst.now w.p w.q marks.now first.now x
+        × (objective inst.now w.p w.q result ≤ℤ objective inst.now w.p w.q x) }
 {
     let mut holding = brought(inst, w, marks, first);
     polish(&mut holding);

@@ -1,15 +1,13 @@
 //! The steps from a list to its neighbours, and the best of them.
 
-ghost use Rattle.std.specs.Prelude.{◌≡◌, ◌≢◌, ℕ, ◌+◌, ◌-◌, ◌*◌, ◌<◌, ◌≤◌, ◌↔◌, length, slice_index_or, slice_set, IsTrue, IsFalse, IfSome, ◌≤ℤ◌, ◌<ℤ◌};
+ghost use Rattle.std.specs.Prelude.{◌≡◌, ◌≢◌, ℕ, ◌+◌, ◌-◌, ◌*◌, ◌<◌, ◌≤◌, ◌↔◌, length, slice_index_or, slice_set, IsTrue, IsFalse, IfSome, pos, ◌≤ℤ◌, ◌<ℤ◌};
 ghost use Rattle.gap_instance.specs.Instances.{IsInstance, AreBetween};
-ghost use Rattle.gap_instance.specs.Limits.{MeetsLimits};
+ghost use Rattle.gap_instance.specs.Limits.{MeetsLimits, held_of, turnover_of};
 ghost use Rattle.gap_instance.specs.Objective.{objective};
 ghost use Rattle.gap_start.specs.Places.{AreAll, IsGiver, IsTaker, IsSteepest};
 ghost use Rattle.gap_start.specs.Steps.{CanStep, stepped, HasRoom, NoneBelow, NoneBelowFrom, NoneBelowKind, IsFound};
 
 use crate::places::{Places, givers, steepest, takers};
-use gap_base::Lots;
-use gap_instance::Instance;
 use gap_objective::Holding;
 
 /// How a neighbour of a list comes from it.
@@ -38,9 +36,9 @@ pub struct Found {
 
 /// The step to the neighbour with the least objective among those that meet the limits and are better than the list:
 /// of equal ones moves come before replacements, then the lower giver, then the lower taker. Costs O(N), O(1) for each
-/// pair of a held asset and an asset whose slope is below the greatest of the held ones, and O(N) each time that a better
-/// one is found.
+/// pair of a held asset and an asset whose slope is below the greatest of the held ones.
 pub fn best_step(h: &Holding<'_>) -> Found
+    requires { MeetsLimits h.now.instance h.now.lots }
     ensures found { IsFound h.now.instance h.now.weight.p h.now.weight.q h.now.lots result }
     ensures moves { NoneBelowKind h.now.instance h.now.weight.p h.now.weight.q h.now.lots result.value Kind.Move }
     ensures replacements { NoneBelowKind h.now.instance h.now.weight.p h.now.weight.q h.now.lots result.value Kind.Replace }
@@ -59,6 +57,7 @@ pub fn best_step(h: &Holding<'_>) -> Found
 /// The best step of one kind, where none was found that is as good: from the assets that are held, of which asset `top`
 /// has the greatest slope.
 fn best_of(h: &Holding<'_>, kind: Kind, givers: &Places, top: u16, before: Found) -> Found
+    requires meets { MeetsLimits h.now.instance h.now.lots }
     requires givers { AreAll (IsGiver h.now.lots) h.now.instance.market.assets h.now.instance.market.assets
         givers.now.numbers givers.now.count }
     requires inside { top < h.now.instance.market.assets }
@@ -80,6 +79,7 @@ fn best_of(h: &Holding<'_>, kind: Kind, givers: &Places, top: u16, before: Found
 /// The best step of one kind from asset `i`, where none was found that is as good: to the assets at which the slope is
 /// below the one at asset `top`.
 fn best_from(h: &Holding<'_>, kind: Kind, i: u16, top: u16, takers: &Places, before: Found) -> Found
+    requires meets { MeetsLimits h.now.instance h.now.lots }
     requires giver { i < h.now.instance.market.assets }
     requires steepest { IsSteepest h.now.instance h.now.weight.p h.now.weight.q h.now.lots top }
     requires takers { AreAll (IsTaker h.now.instance h.now.weight.p h.now.weight.q h.now.lots kind top)
@@ -100,6 +100,7 @@ fn best_from(h: &Holding<'_>, kind: Kind, i: u16, top: u16, takers: &Places, bef
 
 /// The better one of a step and of what was found before. Costs O(1) where the objective can't fall by it.
 fn better_of(h: &Holding<'_>, kind: Kind, i: u16, j: u16, before: Found) -> Found
+    requires meets { MeetsLimits h.now.instance h.now.lots }
     requires giver { i < h.now.instance.market.assets }
     requires taker { j < h.now.instance.market.assets }
     requires before { IsFound h.now.instance h.now.weight.p h.now.weight.q h.now.lots before }
@@ -116,6 +117,7 @@ fn better_of(h: &Holding<'_>, kind: Kind, i: u16, j: u16, before: Found) -> Foun
 
 /// The better one of a step and of what was found before, by the objective after it.
 fn better_by_value(h: &Holding<'_>, kind: Kind, i: u16, j: u16, before: Found) -> Found
+    requires meets { MeetsLimits h.now.instance h.now.lots }
     requires giver { i < h.now.instance.market.assets }
     requires taker { j < h.now.instance.market.assets }
     requires before { IsFound h.now.instance h.now.weight.p h.now.weight.q h.now.lots before }
@@ -123,12 +125,12 @@ fn better_by_value(h: &Holding<'_>, kind: Kind, i: u16, j: u16, before: Found) -
     ensures better { result.value ≤ℤ before.value }
     ensures none { NoneBelow h.now.instance h.now.weight.p h.now.weight.q h.now.lots result.value kind i j }
 {
-    let x = h.lots();
+    let _lots = h.lots();
     if !has_room(h, kind, i, j) {
         return before;
     }
     let value = value_after(h, kind, i, j);
-    if value < before.value && h.instance().keeps(&after(x, kind, i, j)).is_none() {
+    if value < before.value && keeps_turnover(h, kind, i, j) {
         let step = Some(Step {
             kind,
             from: i,
@@ -139,7 +141,7 @@ fn better_by_value(h: &Holding<'_>, kind: Kind, i: u16, j: u16, before: Found) -
     before
 }
 
-/// Is this a step, does the taker have room for what it gets, and may the giver keep what it has left?
+/// Is this a step, does the taker have room for what it gets, and may the giver keep what it has left? Costs O(1).
 fn has_room(h: &Holding<'_>, kind: Kind, i: u16, j: u16) -> bool
     requires giver { i < h.now.instance.market.assets }
     requires taker { j < h.now.instance.market.assets }
@@ -151,7 +153,7 @@ fn has_room(h: &Holding<'_>, kind: Kind, i: u16, j: u16) -> bool
     match kind {
         Kind::Move => {
             let fits = i != j && 0 < given && 0 < taken && taken < inst.hi(j);
-            fits && (given == 1 || inst.lo(i) < given)
+            fits && (inst.lo(i) < given || (given == 1 && inst.held() < h.held()))
         }
         Kind::Replace => 0 < given && taken == 0 && inst.lo(j) <= given && given <= inst.hi(j),
     }
@@ -171,25 +173,34 @@ fn value_after(h: &Holding<'_>, kind: Kind, i: u16, j: u16) -> i128
     }
 }
 
-/// The list after a step.
-fn after(x: &Lots, kind: Kind, i: u16, j: u16) -> Lots
-    requires giver { i < length x.now }
-    requires taker { j < length x.now }
-    requires small { (k : ℕ) → k < length x.now → slice_index_or x.now k 0 ≤ 10000 }
-    ensures { result ≡ stepped x.now kind i j }
+/// Does the list after a step that has room meet the limits? Of these only the turnover is left to be looked at. Costs
+/// O(1).
+fn keeps_turnover(h: &Holding<'_>, kind: Kind, i: u16, j: u16) -> bool
+    requires meets { MeetsLimits h.now.instance h.now.lots }
+    requires giver { i < h.now.instance.market.assets }
+    requires taker { j < h.now.instance.market.assets }
+    requires room { HasRoom h.now.instance h.now.lots kind i j }
+    ensures { IsTrue result ↔ MeetsLimits h.now.instance (stepped h.now.lots kind i j) }
 {
-    let mut y = x.copy();
-    let given = x.get(i);
-    let taken = x.get(j);
-    match kind {
-        Kind::Move => {
-            y.set(i, given.saturating_sub(1));
-            y.set(j, taken + 1);
-        }
-        Kind::Replace => {
-            y.set(i, taken);
-            y.set(j, given);
-        }
+    let _lots = h.lots();
+    match h.instance().turnover() {
+        Some(most) => turnover_after(h, kind, i, j) <= most,
+        None => true,
     }
-    y
+}
+
+/// The turnover to the list after a step. Costs O(1).
+fn turnover_after(h: &Holding<'_>, kind: Kind, i: u16, j: u16) -> u32
+    requires giver { i < h.now.instance.market.assets }
+    requires taker { j < h.now.instance.market.assets }
+    requires room { HasRoom h.now.instance h.now.lots kind i j }
+    ensures { pos result
+        ≡ turnover_of h.now.instance.market.assets h.now.instance.present (stepped h.now.lots kind i j) }
+{
+    let given = h.lots().get(i);
+    let taken = h.lots().get(j);
+    match kind {
+        Kind::Move => h.turnover_with(i, given.saturating_sub(1), j, taken.saturating_add(1)),
+        Kind::Replace => h.turnover_with(i, taken, j, given),
+    }
 }

@@ -1,4 +1,4 @@
-use Rattle.std.proofs.Common.{◌≡◌, ◌+◌, length, replicate, length-set, ◌∙◌, arith, sym, w32}
+use Rattle.std.proofs.Common.{◌≡◌, replicate, length-set, ◌∙◌, arith, sym, w32}
 use Rattle.std.proofs.lemmas.Int.{to_z-of_z}
 use Rattle.std.specs.Int.{w128}
 use Rattle.gap_objective.specs.Slopes.{slope_of}

@@ -1,10 +1,10 @@
 use Rattle.std.proofs.Common.{◌≤◌, length, List, ℕ, ap, sym, subst, arith}
 use Rattle.std.proofs.lemmas.Option.{IfSome_then}
-use Rattle.gap_instance.specs.Orders.{CanBeHeld, holds, HeldGiveList}
+use Rattle.gap_instance.specs.Orders.{CanBeHeld, holds, HeldGiveList, GivesList}
 use Rattle.gap_instance.specs.Selections.{is_marked}
 use Rattle.gap_instance.proofs.OrderLaws.{order_same}
-use Rattle.gap_start.specs.Starts.{IsStart, IsStartOf}
-use Rattle.gap_start.proofs.StartLaws.{gives_same}
+use Rattle.gap_start.specs.Starts.{IsStartBy, IsStartOf}
+use Rattle.gap_start.proofs.StartLaws.{gives_same, start_by_order}
 use Rattle.gap_start.proofs.starting.start_by.Goals as goal
 
 pub returns-then-len-k-clause-none : goal.returns-then-len-k-clause-none
@@ -37,19 +37,10 @@ returns-clause-some c =
     let I = c.args.inst.now in
     let marks = c.first_marks-marks.ensures.marks in
     let there : c.args.k ≤ length c.order-order.result = omega arith in
-    IfSome_then c.start_from.result {P = IsStartOf I c.args.w.p c.args.w.q c.first_marks-marks.result} {Q = IsStart I c.args.w.p c.args.w.q} c.start_from.ensures.some (λ x s. record {
-      gives = (
-        c.args.by,
-        c.args.k,
-        c.order-order.result,
-        c.requires.least,
-        c.requires.most,
-        record {
-          order_is = c.order-order.ensures;
-          enough = there;
-          gives = gives_same I (is_marked c.first_marks-marks.result) (holds c.order-order.result c.args.k) marks.marked s.gives;
-        },
-      );
-      meets = s.meets;
-      best = s.best;
-    })
+    IfSome_then c.start_from.result {P = IsStartOf I c.args.w.p c.args.w.q c.first_marks-marks.result} {Q = IsStartBy I c.args.w.p c.args.w.q c.args.by c.args.k} c.start_from.ensures.some (λ x s.
+    let gives : GivesList I c.args.w.p c.args.w.q c.args.by c.args.k c.order-order.result = record {
+      order_is = c.order-order.ensures;
+      enough = there;
+      gives = gives_same I (is_marked c.first_marks-marks.result) (holds c.order-order.result c.args.k) marks.marked s.gives;
+    } in
+    start_by_order I c.args.w.p c.args.w.q c.args.by c.args.k c.order-order.result c.first_marks-marks.result x c.requires.least c.requires.most gives marks s)
