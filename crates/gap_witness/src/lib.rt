@@ -4,6 +4,7 @@
 mod balance;
 mod frame;
 mod gradient;
+mod laws;
 mod moving;
 mod pairs;
 mod places;
@@ -14,6 +15,7 @@ mod rounds;
 mod splitting;
 mod step;
 
+pub use laws::rounds_descend;
 pub use places::first_greatest_is;
 pub use pointing::{kept_tangent_point, tangent_point};
 pub use splitting::split_for;
