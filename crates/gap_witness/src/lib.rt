@@ -10,6 +10,7 @@ mod pairs;
 mod places;
 mod pointing;
 mod range;
+mod ranges;
 mod reading;
 mod rounds;
 mod splitting;
