@@ -17,7 +17,8 @@ use Rattle.gap_model.specs.Leaves.{shows, void_shows, is_zero, AreMultipliers}
 use Rattle.gap_model.specs.Problems.{IsPart, ShowsEmpty, tangent_problem}
 use Rattle.gap_model.proofs.BoundLaws.{tangent_lawful}
 use Rattle.gap_model.proofs.LeafLaws.{multipliers_are}
-use Rattle.gap_witness.proofs.VoidLaws.{void_shown, void_lag_of_lots, pick_length}
+use Rattle.gap_tangent.proofs.LotsLaws.{void_lag_of_lots, pick_length}
+use Rattle.gap_witness.proofs.VoidLaws.{void_shown}
 use Rattle.gap_leaf.specs.declared.multipliers.Multipliers.{Multipliers}
 use Rattle.gap_leaf.specs.Voids.{IsVoidTry, void_for, is_empty, is_void_empty, turned_void, first_void}
 

@@ -10,3 +10,4 @@ pub mod EntryLaws
 pub mod CopyLaws
 pub mod ShownLaws
 pub mod LineLaws
+pub mod LotsLaws

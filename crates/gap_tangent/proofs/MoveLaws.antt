@@ -27,7 +27,7 @@ move_total y s i j p q n h =
     let o = get_or-set_other y i j (slice_index_or y i 0 - s) 0 (λ e. n (sym e)) in
     omega arith
 
-move_at : (y : List ℕ) (s i j k : ℕ) → i < length y → j < length y → i ≢ j → s ≤ slice_index_or y i 0 → lots_at (after_move y s i j) k ≡ moved (lots_at y) (pos s) i j k
+pub move_at : (y : List ℕ) (s i j k : ℕ) → i < length y → j < length y → i ≢ j → s ≤ slice_index_or y i 0 → lots_at (after_move y s i j) k ≡ moved (lots_at y) (pos s) i j k
 move_at y s i j k p q n h = lots_moved y (pos s) i j (slice_index_or y i 0 - s) (slice_index_or y j 0 + s) k p q n (taken (slice_index_or y i 0) s h) (given (slice_index_or y j 0) s)
   where
     taken : (v s : ℕ) → s ≤ v → pos (v - s) ≡ pos v -ℤ pos s
@@ -37,7 +37,7 @@ move_at y s i j k p q n h = lots_moved y (pos s) i j (slice_index_or y i 0 - s) 
     given v s = omega (arith, ints)
 
 -- ---- the gradients after it
-tilt_moved : (s : Setting) (y : List ℕ) (t i j k : ℕ) → length y ≡ s.instance.market.assets → i < length y → j < length y → i ≢ j → t ≤ slice_index_or y i 0 → tilt_of s (lots_at (after_move y t i j)) k ≡ tilt_of s (lots_at y) k +ℤ pos t *ℤ (shifted_cov s k j +ℤ neg_ℤ (shifted_cov s k i))
+pub tilt_moved : (s : Setting) (y : List ℕ) (t i j k : ℕ) → length y ≡ s.instance.market.assets → i < length y → j < length y → i ≢ j → t ≤ slice_index_or y i 0 → tilt_of s (lots_at (after_move y t i j)) k ≡ tilt_of s (lots_at y) k +ℤ pos t *ℤ (shifted_cov s k j +ℤ neg_ℤ (shifted_cov s k i))
 tilt_moved s y t i j k e p q n h =
     let m = s.instance.market.assets in
     tilt_is s (lots_at (after_move y t i j)) k

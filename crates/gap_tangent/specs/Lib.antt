@@ -6,3 +6,4 @@ pub mod Points
 pub mod Kept
 pub mod Lines
 pub mod Curves
+pub mod Lots

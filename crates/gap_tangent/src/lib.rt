@@ -13,6 +13,7 @@ mod gradients;
 mod lagrangian;
 mod lines;
 mod lists;
+mod lots;
 mod making;
 mod mean_variance;
 mod moves;

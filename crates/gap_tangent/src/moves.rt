@@ -1,6 +1,6 @@
 //! Gradients after eighths went from one asset to another.
 
-ghost use Rattle.std.specs.Prelude.{◌≡◌, ℕ, ◌*◌, ◌<◌, ◌≤◌, slice_set, ℤ, pos, ◌+ℤ◌, ◌-ℤ◌, ◌*ℤ◌, unsigned_abs};
+ghost use Rattle.std.specs.Prelude.{◌≡◌, ◌≢◌, ℕ, ◌*◌, ◌<◌, ◌≤◌, slice_set, ℤ, pos, ◌+ℤ◌, ◌-ℤ◌, ◌*ℤ◌, unsigned_abs};
 ghost use Rattle.gap_base.specs.Sums.{at};
 ghost use Rattle.gap_model.specs.Settings.{shifted_cov};
 ghost use Rattle.gap_tangent.specs.Seen.{setting_of};
@@ -52,6 +52,41 @@ fn climbed(steep: u32, lead: i128) -> i128
     i128::from(steep) * lead
 }
 
+/// `more - less`, in 64 bits
+fn difference(more: i64, less: i64) -> i64
+    requires more { unsigned_abs more ≤ 1000000000000000000 }
+    requires less { unsigned_abs less ≤ 1000000000000000000 }
+    ensures value { result ≡ more -ℤ less }
+    ensures small { unsigned_abs result ≤ 2000000000000000000 }
+{
+    more - less
+}
+
+/// The same lead where asset `k` is neither of the two: the difference of two covariances, in 64 bits.
+fn lead_apart(mv: &MeanVariance<'_>, k: u16, i: u16, j: u16) -> i64
+    requires there { k < (setting_of mv.now).instance.market.assets }
+    requires giver { i < (setting_of mv.now).instance.market.assets }
+    requires taker { j < (setting_of mv.now).instance.market.assets }
+    requires not_giver { k ≢ i }
+    requires not_taker { k ≢ j }
+    ensures value { result ≡ shifted_cov (setting_of mv.now) k j -ℤ shifted_cov (setting_of mv.now) k i }
+    ensures small { unsigned_abs result ≤ 2000000000000000000 }
+{
+    let more = mv.instance.cov(j, k);
+    let less = mv.instance.cov(i, k);
+    difference(more, less)
+}
+
+/// A steepness times such a lead.
+fn climbed_apart(steep: u32, lead: i64) -> i128
+    requires steep { steep ≤ 16000000 }
+    requires lead { unsigned_abs lead ≤ 2000000000000000000 }
+    ensures value { result ≡ pos steep *ℤ lead }
+    ensures small { unsigned_abs result ≤ 32032000000000000000000000000 }
+{
+    i128::from(steep) * i128::from(lead)
+}
+
 /// What the gradient at asset `k` gains where `s` eighths go from asset `i` to asset `j`.
 fn gained(mv: &MeanVariance<'_>, k: u16, i: u16, j: u16, s: u32) -> i128
     requires there { k < (setting_of mv.now).instance.market.assets }
@@ -63,7 +98,10 @@ fn gained(mv: &MeanVariance<'_>, k: u16, i: u16, j: u16, s: u32) -> i128
     ensures small { unsigned_abs result ≤ 32032000000000000000000000000 }
 {
     let steep = steepness(mv.weight.p, s);
-    climbed(steep, lead(entry(mv, k, j), entry(mv, k, i)))
+    if k == i || k == j {
+        return climbed(steep, lead(entry(mv, k, j), entry(mv, k, i)));
+    }
+    climbed_apart(steep, lead_apart(mv, k, i, j))
 }
 
 /// Adds an amount to the number at place `k`.

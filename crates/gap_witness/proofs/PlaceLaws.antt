@@ -201,6 +201,13 @@ at_more xs i v P l h p k m = by_place (cases_eq k i)
     by_place (inl q) = subst (λ (j : ℕ). P j (at (set xs i v) j)) (sym q) (rw (get_or-set_same xs i v (pos 0) l) p)
     by_place (inr n) = rw (get_or-set_other xs i k v (pos 0) n) (h k (omega arith))
 
+pub number_more : (xs : List ℕ) (i v : ℕ) (P : ℕ → ℕ → Type 0) → i < length xs → ((k : ℕ) → k < i → P k (slice_index_or xs k 0)) → P i v → (k : ℕ) → k < i + 1 → P k (slice_index_or (set xs i v) k 0)
+number_more xs i v P l h p k m = by_place (cases_eq k i)
+  where
+    by_place : (k ≡ i) ⊎ (k ≡ i → ⊥) → P k (slice_index_or (set xs i v) k 0)
+    by_place (inl q) = subst (λ (j : ℕ). P j (slice_index_or (set xs i v) j 0)) (sym q) (rw (get_or-set_same xs i v 0 l) p)
+    by_place (inr n) = rw (get_or-set_other xs i k v 0 n) (h k (omega arith))
+
 -- what a test of two numbers says
 pub below_is : (a b : ℕ) → ltb a b ≡ true → a < b
 below_is a b e = grind (arith, nat_tests)

@@ -1,15 +1,18 @@
 -- What a round makes of a point, from what the code finds.
-use Rattle.std.proofs.Common.{◌≡◌, ℕ, ◌+◌, ◌-◌, ◌<◌, ◌≤◌, min, Bool, true, false, cond, ◌||◌, List, length, slice_index_or, set, Some, None, ℤ, pos, ◌-ℤ◌, ◌*ℤ◌, ◌≤ℤ◌, ◌<ℤ◌, unsigned_abs, FitsSigned, to_z, of_z, refl, sym, ap, ◌∙◌, arith, length-set}
+use Rattle.std.proofs.Common.{◌≡◌, ◌≢◌, ℕ, ◌+◌, ◌-◌, ◌<◌, ◌≤◌, min, Bool, true, false, not, cond, ◌||◌, ◌&&◌, ltb, eqb, Option, neg_ℤ, List, length, slice_index_or, set, Some, None, ℤ, pos, ◌-ℤ◌, ◌*ℤ◌, ◌≤ℤ◌, ◌<ℤ◌, unsigned_abs, FitsSigned, to_z, of_z, refl, sym, ap, ◌∙◌, arith, length-set}
 use Rattle.std.specs.Prelude.{int_le}
 use Rattle.std.specs.Int.{w128}
+use Rattle.std.proofs.lemmas.Bool.Decides.{nat_tests}
 use Rattle.std.specs.Int.Signed.{le_z}
 use Rattle.std.proofs.lemmas.Int.{ints, to_z-of_z}
 use Rattle.gap_box.specs.declared.cell.Cell.{Cell}
 use Rattle.gap_box.specs.declared.cell.Cell.TheVariants.{Out, Held, Free}
 use Rattle.gap_box.specs.Cells.{IsCell, AreCells}
 use Rattle.gap_model.specs.Settings.{Setting}
-use Rattle.gap_witness.specs.Points.{Choice, most_by, is_full, upper_end, gradient, curvature, step_between, is_idle, shifted_by, exchange}
-use Rattle.gap_witness.proofs.PlaceLaws.{set_most}
+use Rattle.gap_box.proofs.CountLaws.{both_true, and_true}
+use Rattle.gap_witness.specs.Places.{first_greatest}
+use Rattle.gap_witness.specs.Points.{Choice, most_by, is_full, upper_end, gradient, taker, curvature, step_between, is_idle, shifted_by, exchange}
+use Rattle.gap_witness.proofs.PlaceLaws.{set_most, found_none, found_some, some_found, none_found}
 
 le_true : (a b : ℤ) → a ≤ℤ b → int_le a b ≡ true
 le_true a b h = grind (arith, ints)
@@ -33,6 +36,44 @@ goes_on s o y i j h k = by_test (int_le (gradient s o y i) (gradient s o y j)) (
   where
     by_test : (a b : Bool) → a ≡ false → b ≡ false → Some (shifted_by y (step_between s o y i j) i j) ≡ cond (a || b) None (Some (shifted_by y (step_between s o y i j) i j))
     by_test a b e f = rw (e, f) refl
+
+-- ---- the asset that takes, of all that may
+abbrev may_take : Choice → List ℕ → ℕ → Bool
+may_take o y j = ltb (slice_index_or y j 0) (upper_end o j)
+
+pub taker_is : (s : Setting) (o : Choice) (y : List ℕ) (i j : ℕ) → j ≢ i → first_greatest (length o.cells) (λ k. ltb (slice_index_or y k 0) (upper_end o k)) (λ k. neg_ℤ (gradient s o y k)) ≡ Some j → taker s o y i ≡ Some j
+taker_is s o y i j n e =
+    let w = found_some (length o.cells) (may_take o y) (λ k. neg_ℤ (gradient s o y k)) j e in
+    some_found (length o.cells) (λ k. not (eqb k i) && may_take o y k) (λ k. neg_ℤ (gradient s o y k)) j (record {
+      below = w.below;
+      allowed = and_true _ _ (other j i n) w.allowed;
+      greatest = λ k l a. w.greatest k l (both_true (not (eqb k i)) (may_take o y k) a).1;
+      first = λ k l a. w.first k l (both_true (not (eqb k i)) (may_take o y k) a).1;
+    })
+  where
+    other : (j i : ℕ) → j ≢ i → not (eqb j i) ≡ true
+    other j i n = grind (arith, nat_tests)
+
+pub taker_none : (s : Setting) (o : Choice) (y : List ℕ) (i : ℕ) → first_greatest (length o.cells) (λ k. ltb (slice_index_or y k 0) (upper_end o k)) (λ k. neg_ℤ (gradient s o y k)) ≡ None → taker s o y i ≡ None
+taker_none s o y i e = none_found (length o.cells) (λ k. not (eqb k i) && may_take o y k) (λ k. neg_ℤ (gradient s o y k)) (λ k l. second_false (not (eqb k i)) (may_take o y k) (found_none (length o.cells) (may_take o y) (λ k. neg_ℤ (gradient s o y k)) e k l))
+  where
+    second_false : (a b : Bool) → b ≡ false → (a && b) ≡ false
+    second_false true b e = e
+    second_false false b e = refl
+
+-- where it is the one that gives, no other has a gradient below that one's
+pub taker_self : (s : Setting) (o : Choice) (y : List ℕ) (i : ℕ) → first_greatest (length o.cells) (λ k. ltb (slice_index_or y k 0) (upper_end o k)) (λ k. neg_ℤ (gradient s o y k)) ≡ Some i → None ≡ exchange s o y i (taker s o y i)
+taker_self s o y i e = by_taker (taker s o y i) refl
+  where
+    by_taker : (t : Option ℕ) → taker s o y i ≡ t → None ≡ exchange s o y i t
+    by_taker None q = refl
+    by_taker (Some j) q =
+        let w = found_some (length o.cells) (may_take o y) (λ k. neg_ℤ (gradient s o y k)) i e in
+        let v = found_some (length o.cells) (λ k. not (eqb k i) && may_take o y k) (λ k. neg_ℤ (gradient s o y k)) j q in
+        ends_level s o y i j (turned (gradient s o y i) (gradient s o y j) (w.greatest j v.below (both_true (not (eqb j i)) (may_take o y j) v.allowed).1))
+      where
+        turned : (a b : ℤ) → neg_ℤ b ≤ℤ neg_ℤ a → a ≤ℤ b
+        turned a b h = omega (arith, ints)
 
 pub not_over : (x : ℤ) → FitsSigned w128 x → le_z (to_z w128 (of_z w128 x)) (pos 0) ≡ true → x ≤ℤ pos 0
 not_over x f h = let t = sym (ap (λ (z : ℤ). le_z z (pos 0)) (to_z-of_z w128 x f)) ∙ h in within x t

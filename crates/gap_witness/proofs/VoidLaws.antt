@@ -20,6 +20,7 @@ use Rattle.gap_model.specs.Leaves.{shows, void_shows, IsPoint}
 use Rattle.gap_model.proofs.LagLaws.{void_lag_is}
 use Rattle.gap_model.proofs.LimitLaws.{in_part_length}
 use Rattle.gap_model.proofs.ThetaLaws.{void_theta_is, void_theta_some}
+use Rattle.gap_tangent.proofs.LotsLaws.{void_lag_of_lots, pick_length}
 use Rattle.gap_witness.specs.Having.{HasTangentPoint}
 use Rattle.gap_witness.specs.Points.{first_point, point, choice_of}
 use Rattle.gap_witness.proofs.BudgetLaws.{first_in_range, point_in_range}
@@ -29,31 +30,12 @@ pub void_shown : (s : Setting) (part : List Cell) (alpha tau v : ℤ) → IsVoid
 unfolding shows
 void_shown s part alpha tau v h = ap void_shows (void_theta_is s part alpha tau v h)
 
-unturned : (I : InstanceValue) (o : Option ℕ) (x : List ℕ) → turnover_term I o (pos 0) x ≡ pos 0
-unturned I None x = refl
-unturned I (Some t) x = zero-*ℤ (turnover_of I.market.assets I.present x -ℤ pos t)
-
--- the terms of alpha alone: alpha for each lot above L
-pub void_lag_of_lots : (s : Setting) (alpha : ℤ) (x : List ℕ) → length x ≡ s.instance.market.assets → void_lag s alpha (pos 0) x ≡ alpha *ℤ (pos (sum x) -ℤ pos s.instance.lots)
-void_lag_of_lots s alpha x e =
-    let a = void_lag_is s alpha (pos 0) x in
-    let b = unturned s.instance s.instance.turnover x in
-    let d : pos (sum x) ≡ sum_of s.instance.market.assets x = sum_places x ∙ ap (λ (n : ℕ). sum_below n (lots_at x)) e in
-    let f = ap (λ (z : ℤ). alpha *ℤ (z -ℤ pos s.instance.lots)) d in
-    added (void_lag s alpha (pos 0) x) (alpha *ℤ (sum_of s.instance.market.assets x -ℤ pos s.instance.lots)) (turnover_term s.instance s.instance.turnover (pos 0) x) a b ∙ sym f
-  where
-    added : (u v w : ℤ) → u ≡ v +ℤ w → w ≡ pos 0 → u ≡ v
-    added u v w p q = omega (arith, ints)
-
 not_positive : (v : ℤ) → void_shows (Some v) ≢ Empty → v ≤ℤ pos 0
 not_positive v n = by_test (int_lt (pos 0) v) refl
   where
     by_test : (b : Bool) → int_lt (pos 0) v ≡ b → v ≤ℤ pos 0
     by_test true e = absurd (n (ap (λ (b : Bool). cond b Empty Nothing) e))
     by_test false e = grind (arith, ints)
-
-pub pick_length : (s : Setting) (part : List Cell) (x : List ℕ) → length part ≡ s.instance.market.assets → IsPick part s.instance.held s.instance.held_most x → length x ≡ s.instance.market.assets
-pick_length s part x n p = sym (in_part_length part x p.inside) ∙ n
 
 -- a part that has a tangent point has a list that meets the count and has at most L lots
 low_list : (s : Setting) (part : List Cell) → length part ≡ s.instance.market.assets → AreCells part → s.instance.held ≤ s.instance.held_most → HasTangentPoint s part → (z : List ℕ) × IsPick part s.instance.held s.instance.held_most z × (sum z ≤ s.instance.lots)

@@ -1,10 +1,11 @@
 -- What the rounds of a tangent point work on, as the setting and the choice of its definition. Own to portgap.
-use Rattle.std.specs.Prelude.{◌≡◌, ◌≢◌, ℕ, ◌<◌, ◌≤◌, List, slice_index_or, ℤ, pos, ◌+◌, ◌*◌, ◌*ℤ◌}
+use Rattle.std.specs.Prelude.{◌≡◌, ◌≢◌, ℕ, ◌<◌, ◌≤◌, List, length, slice_index_or, ℤ, pos, ◌+◌, ◌*◌, ◌*ℤ◌, unsigned_abs}
 use Rattle.gap_base.specs.Sums.{at}
 use Rattle.gap_model.specs.Settings.{Setting}
 use Rattle.gap_tangent.specs.Seen.{setting_of}
 use Rattle.gap_witness.specs.declared.frame.Frame.{Frame}
 use Rattle.gap_witness.specs.declared.moving.Move.{Move}
+use Rattle.gap_witness.specs.declared.ranges.Ranges.{Ranges}
 use Rattle.gap_witness.specs.Points.{Choice, lower_end, upper_end, shifted_by}
 
 abbrev pub setting_in : Frame → Setting
@@ -32,3 +33,10 @@ pub record CanMove (n : ℕ) (y : List ℕ) (m : Move) : Type 0 where
   pub taker : m.to < n
   pub apart : m.from ≢ m.to
   pub enough : m.eighths ≤ slice_index_or y m.from 0
+
+-- rows have the ends of all ranges, and what these take off the gradients
+pub record AreRanges (f : Frame) (r : Ranges) : Type 0 where
+  pub lowers_are : (k : ℕ) → k < length f.part.now → slice_index_or r.lowers k 0 ≡ lower_end (choice_in f) k
+  pub uppers_are : (k : ℕ) → k < length f.part.now → slice_index_or r.uppers k 0 ≡ upper_end (choice_in f) k
+  pub levels_are : (k : ℕ) → k < length f.part.now → at r.levels k ≡ level (setting_in f) (choice_in f) k
+  pub levels_small : (k : ℕ) → k < length f.part.now → unsigned_abs (at r.levels k) ≤ 16000000000000000000000000000

@@ -3,3 +3,4 @@ pub mod Cutting
 pub mod Points
 pub mod Having
 pub mod Frames
+pub mod Descent

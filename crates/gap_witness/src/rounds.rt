@@ -1,26 +1,27 @@
 //! The rounds of a tangent point.
 
-ghost use Rattle.std.specs.Prelude.{◌≡◌, ◌≢◌, ℕ, ◌*◌, ◌<◌, ◌≤◌, length, slice_index_or, Some, IfSome, option_map, unsigned_abs};
-ghost use Rattle.gap_base.specs.Sums.{at};
-ghost use Rattle.gap_witness.specs.Points.{lower_end, upper_end, gradient, shifted_by, exchange, next_from, next, rounds};
-ghost use Rattle.gap_witness.specs.Frames.{setting_in, choice_in, level, moved_by, CanMove};
+ghost use Rattle.std.specs.Prelude.{◌≡◌, ◌≢◌, ℕ, ◌*◌, ◌<◌, ◌≤◌, length, slice_index_or, Some, IfSome, option_map, ◌-ℤ◌, unsigned_abs};
+ghost use Rattle.gap_witness.specs.Points.{lower_end, upper_end, gradient, shifted_by, exchange, next, rounds};
+ghost use Rattle.gap_witness.specs.Frames.{setting_in, choice_in, moved_by, CanMove, AreRanges};
 
 use crate::frame::Frame;
 use crate::moving::Move;
-use crate::pairs::{giver_of, levels_of, slopes_of, taker_of};
+use crate::pairs::{pair_of, slope_at};
+use crate::ranges::{Ranges, ranges_of};
 use crate::step::{curvature_of, drop_of, gap_of, room_of, step_by};
 use gap_base::Eighths;
 use gap_tangent::Point;
 
-/// How many eighths a round moves from the asset that gives to the one that takes; None where the rounds end.
-fn exchanged(frame: &Frame<'_>, y: &Eighths, slopes: &[i128; 256], i: u16, j: u16) -> Option<u32>
+/// How many eighths a round moves from the asset that gives to the one that takes, by the gap of their slopes; None where
+/// the rounds end.
+fn exchanged(frame: &Frame<'_>, y: &Eighths, gap: i128, i: u16, j: u16) -> Option<u32>
     requires giver { i < length frame.now.part.now }
     requires taker { j < length frame.now.part.now }
     requires same { length y.now ≡ length frame.now.part.now }
-    requires value { (k : ℕ) → k < length frame.now.part.now
-        → at slopes.now k ≡ gradient (setting_in frame.now) (choice_in frame.now) y.now k }
-    requires small { (k : ℕ) → k < length frame.now.part.now
-        → unsigned_abs (at slopes.now k) ≤ 5000000000000000000000000000000 }
+    requires gap { gap
+        ≡ gradient (setting_in frame.now) (choice_in frame.now) y.now i
+        -ℤ gradient (setting_in frame.now) (choice_in frame.now) y.now j }
+    requires small { unsigned_abs gap ≤ 10000000000000000000000000000000 }
     requires gives { lower_end (choice_in frame.now) i < slice_index_or y.now i 0 }
     requires takes { slice_index_or y.now j 0 < upper_end (choice_in frame.now) j }
     ensures value { option_map (λ t. shifted_by y.now t i j) result
@@ -28,7 +29,6 @@ fn exchanged(frame: &Frame<'_>, y: &Eighths, slopes: &[i128; 256], i: u16, j: u1
     ensures enough { IfSome result (λ t. t ≤ slice_index_or y.now i 0) }
 {
     let _assets = frame.part.len();
-    let gap = gap_of(slopes, i, j);
     if gap <= 0 {
         return None;
     }
@@ -41,29 +41,39 @@ fn exchanged(frame: &Frame<'_>, y: &Eighths, slopes: &[i128; 256], i: u16, j: u1
     Some(step)
 }
 
+/// The gap of the slopes of two assets.
+fn gap_at(frame: &Frame<'_>, ranges: &Ranges, point: &Point<'_>, i: u16, j: u16) -> i128
+    requires giver { i < length frame.now.part.now }
+    requires taker { j < length frame.now.part.now }
+    requires same { point.now.setting ≡ setting_in frame.now }
+    requires ranges { AreRanges frame.now ranges.now }
+    ensures value { result
+        ≡ gradient (setting_in frame.now) (choice_in frame.now) point.now.eighths i
+        -ℤ gradient (setting_in frame.now) (choice_in frame.now) point.now.eighths j }
+    ensures small { unsigned_abs result ≤ 10000000000000000000000000000000 }
+{
+    let first = slope_at(frame, &ranges.levels, point, i);
+    let second = slope_at(frame, &ranges.levels, point, j);
+    gap_of(first, second)
+}
+
 /// The move of a round from one asset to another; None where the rounds end.
-fn move_between(
-    frame: &Frame<'_>,
-    y: &Eighths,
-    slopes: &[i128; 256],
-    i: u16,
-    j: u16,
-) -> Option<Move>
+fn move_between(frame: &Frame<'_>, y: &Eighths, gap: i128, i: u16, j: u16) -> Option<Move>
     requires giver { i < length frame.now.part.now }
     requires taker { j < length frame.now.part.now }
     requires apart { i ≢ j }
     requires same { length y.now ≡ length frame.now.part.now }
-    requires value { (k : ℕ) → k < length frame.now.part.now
-        → at slopes.now k ≡ gradient (setting_in frame.now) (choice_in frame.now) y.now k }
-    requires small { (k : ℕ) → k < length frame.now.part.now
-        → unsigned_abs (at slopes.now k) ≤ 5000000000000000000000000000000 }
+    requires gap { gap
+        ≡ gradient (setting_in frame.now) (choice_in frame.now) y.now i
+        -ℤ gradient (setting_in frame.now) (choice_in frame.now) y.now j }
+    requires small { unsigned_abs gap ≤ 10000000000000000000000000000000 }
     requires gives { lower_end (choice_in frame.now) i < slice_index_or y.now i 0 }
     requires takes { slice_index_or y.now j 0 < upper_end (choice_in frame.now) j }
     ensures value { option_map (moved_by y.now) result
         ≡ exchange (setting_in frame.now) (choice_in frame.now) y.now i (Some j) }
     ensures lawful { IfSome result (CanMove (length frame.now.part.now) y.now) }
 {
-    match exchanged(frame, y, slopes, i, j) {
+    match exchanged(frame, y, gap, i, j) {
         None => None,
         Some(eighths) => Some(Move {
             from: i,
@@ -73,54 +83,28 @@ fn move_between(
     }
 }
 
-/// The move of a round for the asset that gives; None where the rounds end.
-fn move_from(frame: &Frame<'_>, y: &Eighths, slopes: &[i128; 256], i: u16) -> Option<Move>
-    requires giver { i < length frame.now.part.now }
-    requires same { length y.now ≡ length frame.now.part.now }
-    requires value { (k : ℕ) → k < length frame.now.part.now
-        → at slopes.now k ≡ gradient (setting_in frame.now) (choice_in frame.now) y.now k }
-    requires small { (k : ℕ) → k < length frame.now.part.now
-        → unsigned_abs (at slopes.now k) ≤ 5000000000000000000000000000000 }
-    requires gives { lower_end (choice_in frame.now) i < slice_index_or y.now i 0 }
-    ensures value { option_map (moved_by y.now) result
-        ≡ next_from (setting_in frame.now) (choice_in frame.now) y.now (Some i) }
-    ensures lawful { IfSome result (CanMove (length frame.now.part.now) y.now) }
-{
-    match taker_of(frame, y, slopes, i) {
-        None => None,
-        Some(j) => move_between(frame, y, slopes, i, j),
-    }
-}
-
-/// The move of a round by the gradients; None where the rounds end.
-fn chosen(frame: &Frame<'_>, y: &Eighths, slopes: &[i128; 256]) -> Option<Move>
-    requires same { length y.now ≡ length frame.now.part.now }
-    requires value { (k : ℕ) → k < length frame.now.part.now
-        → at slopes.now k ≡ gradient (setting_in frame.now) (choice_in frame.now) y.now k }
-    requires small { (k : ℕ) → k < length frame.now.part.now
-        → unsigned_abs (at slopes.now k) ≤ 5000000000000000000000000000000 }
-    ensures value { option_map (moved_by y.now) result ≡ next (setting_in frame.now) (choice_in frame.now) y.now }
-    ensures lawful { IfSome result (CanMove (length frame.now.part.now) y.now) }
-{
-    match giver_of(frame, y, slopes) {
-        None => None,
-        Some(i) => move_from(frame, y, slopes, i),
-    }
-}
-
-/// The move of a round from a point; None where the rounds end. Costs O(N).
-fn next_move(frame: &Frame<'_>, levels: &[i128; 256], point: &Point<'_>) -> Option<Move>
+/// The move of a round from a point; None where the rounds end. Where the asset that may take with the least slope is the
+/// one that gives, no gap is left. Costs O(N).
+fn next_move(frame: &Frame<'_>, ranges: &Ranges, point: &Point<'_>) -> Option<Move>
     requires same { point.now.setting ≡ setting_in frame.now }
-    requires levels { (k : ℕ) → k < length frame.now.part.now
-        → at levels.now k ≡ level (setting_in frame.now) (choice_in frame.now) k }
-    requires small { (k : ℕ) → k < length frame.now.part.now
-        → unsigned_abs (at levels.now k) ≤ 16000000000000000000000000000 }
+    requires ranges { AreRanges frame.now ranges.now }
     ensures value { option_map (moved_by point.now.eighths) result
         ≡ next (setting_in frame.now) (choice_in frame.now) point.now.eighths }
     ensures lawful { IfSome result (CanMove (length frame.now.part.now) point.now.eighths) }
 {
-    let slopes = slopes_of(frame, levels, point);
-    chosen(frame, point.eighths(), &slopes)
+    let y = point.eighths();
+    let pair = pair_of(frame, ranges, point);
+    let Some(i) = pair.giver else {
+        return None;
+    };
+    let Some(j) = pair.taker else {
+        return None;
+    };
+    if i == j {
+        return None;
+    }
+    let gap = gap_at(frame, ranges, point, i, j);
+    move_between(frame, y, gap, i, j)
 }
 
 /// The point after at most 8N rounds from a first one.
@@ -132,10 +116,10 @@ pub(crate) fn walked<'m>(frame: &Frame<'_>, first: Point<'m>) -> Point<'m>
           first.entry.eighths;
     } }
 {
-    let levels = levels_of(frame);
+    let ranges = ranges_of(frame);
     let mut point = first;
     for turn in 0..8 * frame.part.len() {
-        match next_move(frame, &levels, &point) {
+        match next_move(frame, &ranges, &point) {
             None => return point,
             Some(step) => point.give(step.from, step.to, step.eighths),
         }

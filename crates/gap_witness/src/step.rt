@@ -1,7 +1,6 @@
 //! How many eighths go from one asset to another in a round.
 
-ghost use Rattle.std.specs.Prelude.{◌≡◌, ℕ, ◌+◌, ◌-◌, ◌*◌, ◌<◌, ◌≤◌, min, length, slice_index_or, ℤ, pos, ◌+ℤ◌, ◌-ℤ◌, ◌*ℤ◌, unsigned_abs, int_le};
-ghost use Rattle.gap_base.specs.Sums.{at};
+ghost use Rattle.std.specs.Prelude.{◌≡◌, ◌*◌, ◌<◌, ◌≤◌, length, pos, ◌+ℤ◌, ◌-ℤ◌, ◌*ℤ◌, unsigned_abs, int_le};
 ghost use Rattle.gap_model.specs.Settings.{shifted_cov};
 ghost use Rattle.gap_witness.specs.Points.{lower_end, upper_end, curvature, room_between, step_of};
 ghost use Rattle.gap_witness.specs.Frames.{setting_in, choice_in};
@@ -61,15 +60,13 @@ pub(crate) fn curvature_of(frame: &Frame<'_>, i: u16, j: u16) -> i128
 }
 
 /// The gap of two slopes.
-pub(crate) fn gap_of(slopes: &[i128; 256], i: u16, j: u16) -> i128
-    requires giver { i < 256 }
-    requires taker { j < 256 }
-    requires first { unsigned_abs (at slopes.now i) ≤ 5000000000000000000000000000000 }
-    requires second { unsigned_abs (at slopes.now j) ≤ 5000000000000000000000000000000 }
-    ensures value { result ≡ at slopes.now i -ℤ at slopes.now j }
+pub(crate) fn gap_of(first: i128, second: i128) -> i128
+    requires first { unsigned_abs first ≤ 5000000000000000000000000000000 }
+    requires second { unsigned_abs second ≤ 5000000000000000000000000000000 }
+    ensures value { result ≡ first -ℤ second }
     ensures small { unsigned_abs result ≤ 10000000000000000000000000000000 }
 {
-    slopes[usize::from(i)] - slopes[usize::from(j)]
+    first - second
 }
 
 /// What a step takes off that gap.

@@ -9,9 +9,6 @@ use Rattle.gap_witness.specs.Frames.{setting_in, choice_in}
 use Rattle.gap_witness.proofs.RoundLaws.{ends_level, ends_idle, goes_on, not_over, over, level_of, apart_of, size_of, upper_small, given_small}
 use Rattle.gap_witness.proofs.rounds.exchanged.Goals as goal
 
-gap_is : (s : Setting) (o : Choice) (y : List ℕ) (i j : ℕ) (a b g : ℤ) → g ≡ a -ℤ b → a ≡ gradient s o y i → b ≡ gradient s o y j → g ≡ gradient s o y i -ℤ gradient s o y j
-gap_is s o y i j a b g e f h = e ∙ ap (λ (z : ℤ). z -ℤ b) f ∙ ap (λ (z : ℤ). gradient s o y i -ℤ z) h
-
 step_is : (s : Setting) (o : Choice) (y : List ℕ) (i j room ua ub t : ℕ) (g cv : ℤ) → t ≡ step_of room ua ub → room ≡ room_between o y i j → ua ≡ unsigned_abs (gradient s o y i -ℤ gradient s o y j) → ub ≡ unsigned_abs (curvature s i j) → t ≡ step_between s o y i j
 step_is s o y i j room ua ub t g cv e r a b = e ∙ ap (λ (m : ℕ). step_of m ua ub) r ∙ ap (λ (m : ℕ). step_of (room_between o y i j) m ub) a ∙ ap (λ (m : ℕ). step_of (room_between o y i j) (unsigned_abs (gradient s o y i -ℤ gradient s o y j)) m) b
 
@@ -26,9 +23,9 @@ returns-then-gap-le0-clause-value c =
     let y = c.args.y.now in
     let i = c.args.i in
     let j = c.args.j in
-    let fg : FitsSigned w128 c.gap_of-gap.result = record { sfits = c.gap_of-gap.type_inv } in
-    let eg = gap_is s o y i j (at c.args.slopes.now i) (at c.args.slopes.now j) c.gap_of-gap.result c.gap_of-gap.ensures.value (c.requires.value i c.requires.giver) (c.requires.value j c.requires.taker) in
-    ends_level s o y i j (level_of c.gap_of-gap.result _ _ eg (not_over c.gap_of-gap.result fg c.if-gap-le0.true))
+    let fg : FitsSigned w128 c.args.gap = c.ranges.gap in
+    let eg = c.requires.gap in
+    ends_level s o y i j (level_of c.args.gap _ _ eg (not_over c.args.gap fg c.if-gap-le0.true))
 
 pub returns-then-gap-drop_of-clause-value : goal.returns-then-gap-drop_of-clause-value
 returns-then-gap-drop_of-clause-value c =
@@ -38,15 +35,15 @@ returns-then-gap-drop_of-clause-value c =
     let y = c.args.y.now in
     let i = c.args.i in
     let j = c.args.j in
-    let fg : FitsSigned w128 c.gap_of-gap.result = record { sfits = c.gap_of-gap.type_inv } in
-    let eg = gap_is s o y i j (at c.args.slopes.now i) (at c.args.slopes.now j) c.gap_of-gap.result c.gap_of-gap.ensures.value (c.requires.value i c.requires.giver) (c.requires.value j c.requires.taker) in
+    let fg : FitsSigned w128 c.args.gap = c.ranges.gap in
+    let eg = c.requires.gap in
     let fc : FitsSigned w128 c.curvature_of-curve.result = record { sfits = c.curvature_of-curve.type_inv } in
     let fd : FitsSigned w128 c.drop_of.result = record { sfits = c.drop_of.type_inv } in
-    let ua = size_of c.unsigned_abs.result c.gap_of-gap.result fg c.unsigned_abs.ensures.value in
+    let ua = size_of c.unsigned_abs.result c.args.gap fg c.unsigned_abs.ensures.value in
     let ub = size_of c.unsigned_abs-2.result c.curvature_of-curve.result fc c.unsigned_abs-2.ensures.value in
-    let es = step_is s o y i j c.room_of-room.result c.unsigned_abs.result c.unsigned_abs-2.result c.step_by-step.result c.gap_of-gap.result c.curvature_of-curve.result c.step_by-step.ensures.value c.room_of-room.ensures.value (ua ∙ ap unsigned_abs eg) (ub ∙ ap unsigned_abs c.curvature_of-curve.ensures.value) in
+    let es = step_is s o y i j c.room_of-room.result c.unsigned_abs.result c.unsigned_abs-2.result c.step_by-step.result c.args.gap c.curvature_of-curve.result c.step_by-step.ensures.value c.room_of-room.ensures.value (ua ∙ ap unsigned_abs eg) (ub ∙ ap unsigned_abs c.curvature_of-curve.ensures.value) in
     let ed = drop_is s o y i j c.drop_of.result c.curvature_of-curve.result c.step_by-step.result (c.drop_of.ensures.value ∙ ap (λ (z : ℤ). z *ℤ pos c.step_by-step.result) (to_z-of_z w128 c.curvature_of-curve.result fc)) c.curvature_of-curve.ensures.value es in
-    ends_idle s o y i j (subst (λ (z : ℤ). z ≤ℤ (curvature s i j *ℤ pos (step_between s o y i j))) eg (subst (λ (z : ℤ). c.gap_of-gap.result ≤ℤ z) ed (not_above c.gap_of-gap.result c.drop_of.result fg fd c.if-gap-drop_of.true)))
+    ends_idle s o y i j (subst (λ (z : ℤ). z ≤ℤ (curvature s i j *ℤ pos (step_between s o y i j))) eg (subst (λ (z : ℤ). c.args.gap ≤ℤ z) ed (not_above c.args.gap c.drop_of.result fg fd c.if-gap-drop_of.true)))
 
 pub returns-clause-value : goal.returns-clause-value
 returns-clause-value c =
@@ -56,17 +53,17 @@ returns-clause-value c =
     let y = c.args.y.now in
     let i = c.args.i in
     let j = c.args.j in
-    let fg : FitsSigned w128 c.gap_of-gap.result = record { sfits = c.gap_of-gap.type_inv } in
-    let eg = gap_is s o y i j (at c.args.slopes.now i) (at c.args.slopes.now j) c.gap_of-gap.result c.gap_of-gap.ensures.value (c.requires.value i c.requires.giver) (c.requires.value j c.requires.taker) in
+    let fg : FitsSigned w128 c.args.gap = c.ranges.gap in
+    let eg = c.requires.gap in
     let fc : FitsSigned w128 c.curvature_of-curve.result = record { sfits = c.curvature_of-curve.type_inv } in
     let fd : FitsSigned w128 c.drop_of.result = record { sfits = c.drop_of.type_inv } in
-    let ua = size_of c.unsigned_abs.result c.gap_of-gap.result fg c.unsigned_abs.ensures.value in
+    let ua = size_of c.unsigned_abs.result c.args.gap fg c.unsigned_abs.ensures.value in
     let ub = size_of c.unsigned_abs-2.result c.curvature_of-curve.result fc c.unsigned_abs-2.ensures.value in
-    let es = step_is s o y i j c.room_of-room.result c.unsigned_abs.result c.unsigned_abs-2.result c.step_by-step.result c.gap_of-gap.result c.curvature_of-curve.result c.step_by-step.ensures.value c.room_of-room.ensures.value (ua ∙ ap unsigned_abs eg) (ub ∙ ap unsigned_abs c.curvature_of-curve.ensures.value) in
+    let es = step_is s o y i j c.room_of-room.result c.unsigned_abs.result c.unsigned_abs-2.result c.step_by-step.result c.args.gap c.curvature_of-curve.result c.step_by-step.ensures.value c.room_of-room.ensures.value (ua ∙ ap unsigned_abs eg) (ub ∙ ap unsigned_abs c.curvature_of-curve.ensures.value) in
     let ed = drop_is s o y i j c.drop_of.result c.curvature_of-curve.result c.step_by-step.result (c.drop_of.ensures.value ∙ ap (λ (z : ℤ). z *ℤ pos c.step_by-step.result) (to_z-of_z w128 c.curvature_of-curve.result fc)) c.curvature_of-curve.ensures.value es in
     ap (λ (t : ℕ). Some (shifted_by y t i j)) es
-    ∙ goes_on s o y i j (apart_of c.gap_of-gap.result _ _ eg (over c.gap_of-gap.result fg c.if-gap-le0.false))
-    (subst (λ (z : ℤ). (curvature s i j *ℤ pos (step_between s o y i j)) <ℤ z) eg (subst (λ (z : ℤ). z <ℤ c.gap_of-gap.result) ed (above_not c.gap_of-gap.result c.drop_of.result fg fd c.if-gap-drop_of.false)))
+    ∙ goes_on s o y i j (apart_of c.args.gap _ _ eg (over c.args.gap fg c.if-gap-le0.false))
+    (subst (λ (z : ℤ). (curvature s i j *ℤ pos (step_between s o y i j)) <ℤ z) eg (subst (λ (z : ℤ). z <ℤ c.args.gap) ed (above_not c.args.gap c.drop_of.result fg fd c.if-gap-drop_of.false)))
 
 pub returns-clause-enough : goal.returns-clause-enough
 returns-clause-enough c =

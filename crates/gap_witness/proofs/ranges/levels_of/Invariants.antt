@@ -1,7 +1,7 @@
 use Rattle.std.proofs.Common.{◌≡◌, ℕ, ◌<◌, ◌≤◌, length, unsigned_abs}
 use Rattle.gap_base.specs.Sums.{at}
 use Rattle.gap_witness.specs.Frames.{setting_in, choice_in, level}
-use Rattle.gap_witness.proofs.pairs.levels_of.Given as goal
+use Rattle.gap_witness.proofs.ranges.levels_of.Given as goal
 
 abbrev pub invariant-loop-i : goal.invariant-loop-i
 invariant-loop-i l = record {

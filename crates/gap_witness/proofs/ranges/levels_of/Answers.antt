@@ -4,7 +4,7 @@ use Rattle.std.proofs.lemmas.Int.{to_z-of_z}
 use Rattle.gap_base.specs.Sums.{at}
 use Rattle.gap_witness.specs.Frames.{setting_in, choice_in, level}
 use Rattle.gap_witness.proofs.PlaceLaws.{at_more}
-use Rattle.gap_witness.proofs.pairs.levels_of.Goals as goal
+use Rattle.gap_witness.proofs.ranges.levels_of.Goals as goal
 
 pub loop-i-preserved : goal.loop-i-preserved
 loop-i-preserved c =
