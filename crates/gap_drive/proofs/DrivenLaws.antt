@@ -18,6 +18,7 @@ use Rattle.gap_search.specs.Boards.{Board, State, Claimed, tickets, OpenLeaf, Is
 use Rattle.gap_search.specs.Steps.{Event, settles, Step, Run, Holds, FitsChild, Settle, with_best}
 use Rattle.gap_search.proofs.HeldLaws.{tickets_less, LeafCase, stays, at_first, at_second, leaf_case}
 use Rattle.gap_search.proofs.KeptLaws.{same_leaf}
+use Rattle.gap_drive.specs.declared.branch.Branch.{Branch}
 use Rattle.gap_drive.specs.Driven.{IsBranch, IsFollowed, IsDriven, IsSame}
 
 -- two runs are one
@@ -153,10 +154,10 @@ driven_on problem allows fits u v a b c e h k =
     record { events = h.events ++ q.events; run = run_on (problem u) a h.events q.events b c h.run q.run; followed = followed_on (allows u) (fits u) a.nodes b.nodes c.nodes h.followed q.followed }
 
 -- what a guide answers fits the children of the ticket
-pub branch_fits : (p : Problem) (b : Board) (c : Claimed) (leaf : Leaf) (split : Split) (first second : Leaf) → leaf_at b.nodes c.node.0 ≡ Some leaf → IsBranch p c.part leaf split first second → FitsChild p b c (child_cells c.part split First) first × FitsChild p b c (child_cells c.part split Second) second
-branch_fits p b c leaf split first second e h = (
-  record { in_range = h.first_fits.in_range; tight = h.first_fits.tight; no_less = λ was f. subst (λ (l : Leaf). ShownLe (p.shows c.part l) (p.shows (child_cells c.part split First) first)) (same_leaf leaf was (sym e ∙ f)) h.first_shows },
-  record { in_range = h.second_fits.in_range; tight = h.second_fits.tight; no_less = λ was f. subst (λ (l : Leaf). ShownLe (p.shows c.part l) (p.shows (child_cells c.part split Second) second)) (same_leaf leaf was (sym e ∙ f)) h.second_shows },
+pub branch_fits : (p : Problem) (b : Board) (c : Claimed) (leaf : Leaf) (branch : Branch) → leaf_at b.nodes c.node.0 ≡ Some leaf → IsBranch p c.part leaf branch → FitsChild p b c (child_cells c.part branch.split First) branch.first.leaf × FitsChild p b c (child_cells c.part branch.split Second) branch.second.leaf
+branch_fits p b c leaf branch e h = (
+  record { in_range = h.first_fits.in_range; tight = h.first_fits.tight; no_less = λ was f. subst (λ (l : Leaf). ShownLe (p.shows c.part l) (p.shows (child_cells c.part branch.split First) branch.first.leaf)) (same_leaf leaf was (sym e ∙ f)) h.first_no_less },
+  record { in_range = h.second_fits.in_range; tight = h.second_fits.tight; no_less = λ was f. subst (λ (l : Leaf). ShownLe (p.shows c.part l) (p.shows (child_cells c.part branch.split Second) branch.second.leaf)) (same_leaf leaf was (sym e ∙ f)) h.second_no_less },
 )
 
 -- another best changes no count

@@ -9,17 +9,21 @@ use Rattle.gap_model.specs.declared.leaf.Leaf.{Leaf}
 use Rattle.gap_model.specs.Order.{ShownLe}
 use Rattle.gap_model.specs.Problems.{Problem}
 use Rattle.gap_model.specs.Nodes.{Node, part_at, leaf_at, split_at}
+use Rattle.gap_placed.specs.Showing.{ShowsSo}
+use Rattle.gap_drive.specs.declared.branch.Branch.{Branch}
 use Rattle.gap_search.specs.Boards.{Board, State, FitsPart}
 use Rattle.gap_search.specs.Steps.{Event, Run}
 
 -- how a part with a leaf can be taken apart: by a lawful split, with a leaf for each child that is in range and tight
--- there and shows no less than the leaf on the part
-pub record IsBranch (p : Problem) (part : List Cell) (leaf : Leaf) (split : Split) (first second : Leaf) : Type 0 where
-  pub lawful : IsTrue (lawful_split part split)
-  pub first_fits : FitsPart p (child_cells part split First) first
-  pub second_fits : FitsPart p (child_cells part split Second) second
-  pub first_shows : ShownLe (p.shows part leaf) (p.shows (child_cells part split First) first)
-  pub second_shows : ShownLe (p.shows part leaf) (p.shows (child_cells part split Second) second)
+-- there and shows no less than the leaf on the part, and beside it what it shows there
+pub record IsBranch (p : Problem) (part : List Cell) (leaf : Leaf) (b : Branch) : Type 0 where
+  pub lawful : IsTrue (lawful_split part b.split)
+  pub first_fits : FitsPart p (child_cells part b.split First) b.first.leaf
+  pub second_fits : FitsPart p (child_cells part b.split Second) b.second.leaf
+  pub first_no_less : ShownLe (p.shows part leaf) (p.shows (child_cells part b.split First) b.first.leaf)
+  pub second_no_less : ShownLe (p.shows part leaf) (p.shows (child_cells part b.split Second) b.second.leaf)
+  pub first_shows : ShowsSo p (child_cells part b.split First) b.first
+  pub second_shows : ShowsSo p (child_cells part b.split Second) b.second
 
 -- from some nodes on, a guide was followed: each split was there before or is allowed at its part, each leaf was there
 -- before or fits its part, and the parts of the nodes from before are what they were

@@ -10,8 +10,9 @@ ghost use Rattle.gap_model.specs.Problems.{IsPart};
 ghost use Rattle.gap_search.specs.Boards.{FitsPart, IsOpen};
 ghost use Rattle.gap_drive.specs.Driven.{IsBranch};
 
+use crate::branch::Branch;
 use gap_base::{Lots, OutOfMemory};
-use gap_box::{Part, Split};
+use gap_box::Part;
 use gap_model::{Leaf, NodeBound};
 use gap_search::Ticket;
 
@@ -23,18 +24,18 @@ pub trait Guide<'a, B: NodeBound> {
     ghost fits: { B → List Cell → Leaf → Type 0 };
 
     /// How the part of a ticket is taken apart, whose leaf this is: a split that is allowed there, with a leaf for each
-    /// of the two children that fits it.
+    /// of the two children that fits it, and what the bound shows by it there.
     fn branch(
         &mut self,
         bound: &B,
         ticket: &Ticket,
         leaf: &Leaf<'a>,
-    ) -> Result<(Split, Leaf<'a>, Leaf<'a>), OutOfMemory>
+    ) -> Result<Branch<'a>, OutOfMemory>
         requires { IsOpen (B.problem bound.now) ticket.now.part leaf.now }
-        ensures branch { IfOk result (λ r. IsBranch (B.problem bound.now) ticket.now.part leaf.now r.0 r.1 r.2) }
-        ensures allowed { IfOk result (λ r. allows bound.now ticket.now.part r.0) }
-        ensures fits_first { IfOk result (λ r. fits bound.now (child_cells ticket.now.part r.0 First) r.1) }
-        ensures fits_second { IfOk result (λ r. fits bound.now (child_cells ticket.now.part r.0 Second) r.2) };
+        ensures branch { IfOk result (λ r. IsBranch (B.problem bound.now) ticket.now.part leaf.now r) }
+        ensures allowed { IfOk result (λ r. allows bound.now ticket.now.part r.split) }
+        ensures fits_first { IfOk result (λ r. fits bound.now (child_cells ticket.now.part r.split First) r.first.leaf) }
+        ensures fits_second { IfOk result (λ r. fits bound.now (child_cells ticket.now.part r.split Second) r.second.leaf) };
 
     /// A list to be tried, after a part with this leaf was made. Any list may be answered, and None.
     fn candidate(&mut self, bound: &B, part: &Part, leaf: &Leaf<'a>) -> Option<Lots>

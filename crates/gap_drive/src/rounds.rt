@@ -100,12 +100,12 @@ pub fn settle_next<'a, B: NodeBound, G: Guide<'a, B>>(
     };
     let leaf = search.leaf(&ticket);
     match guide.branch(search.bound(), &ticket, &leaf) {
-        Ok((split, first, second)) => {
-            let one = ticket.part().child(split, Side::First);
-            let two = ticket.part().child(split, Side::Second);
-            search.settle(ticket, split, first, second);
-            offer_candidate(search, guide, &one, &first);
-            offer_candidate(search, guide, &two, &second);
+        Ok(branch) => {
+            let one = ticket.part().child(branch.split, Side::First);
+            let two = ticket.part().child(branch.split, Side::Second);
+            search.settle(ticket, branch.split, branch.first, branch.second);
+            offer_candidate(search, guide, &one, &branch.first.leaf);
+            offer_candidate(search, guide, &two, &branch.second.leaf);
             Ok(())
         }
         Err(error) => {

@@ -28,6 +28,8 @@ use Rattle.gap_model.proofs.OrderLaws.{shown_le_trans}
 use Rattle.gap_tangent.proofs.ShownLaws.{tangent_in_range}
 use Rattle.gap_tangent.proofs.EntryLaws.{point_is}
 use Rattle.gap_search.specs.Boards.{FitsPart, IsOpen}
+use Rattle.gap_placed.specs.Showing.{ShowsSo}
+use Rattle.gap_drive.specs.declared.branch.Branch.{Branch}
 use Rattle.gap_drive.specs.Driven.{IsBranch}
 use Rattle.gap_leaf.specs.Showing.{witness_shows}
 use Rattle.gap_leaf.specs.Finding.{IsWitness, IsLeafFor}
@@ -97,11 +99,13 @@ part_length s part is p =
     p.within.same_length ∙ length-root s.instance.least s.instance.greatest (lo ∙ sym hi) ∙ lo
 
 -- how a part is taken apart by a lawful split, with a leaf found for each child from the part's leaf
-pub branch_is : (s : Setting) (part : List Cell) (leaf first second : Leaf) (w : Witness) (split : Split) → IsSetting s → IsOpen (tangent_problem s) part leaf → IsTangentOf s.instance.market.assets leaf w → IsTrue (lawful_split part split) → IsLeafFor s (child_cells part split First) w first → IsLeafFor s (child_cells part split Second) w second → IsBranch (tangent_problem s) part leaf split first second
-branch_is s part leaf first second w split is o t l one two = record {
+pub branch_is : (s : Setting) (part : List Cell) (leaf : Leaf) (b : Branch) (w : Witness) → IsSetting s → IsOpen (tangent_problem s) part leaf → IsTangentOf s.instance.market.assets leaf w → IsTrue (lawful_split part b.split) → IsLeafFor s (child_cells part b.split First) w b.first.leaf → IsLeafFor s (child_cells part b.split Second) w b.second.leaf → ShowsSo (tangent_problem s) (child_cells part b.split First) b.first → ShowsSo (tangent_problem s) (child_cells part b.split Second) b.second → IsBranch (tangent_problem s) part leaf b
+branch_is s part leaf b w is o t l one two f g = record {
   lawful = l;
-  first_fits = leaf_fits s (child_cells part split First) w first one;
-  second_fits = leaf_fits s (child_cells part split Second) w second two;
-  first_shows = child_shows s is part o.part_is split First l leaf first w o.fits t one;
-  second_shows = child_shows s is part o.part_is split Second l leaf second w o.fits t two;
+  first_fits = leaf_fits s (child_cells part b.split First) w b.first.leaf one;
+  second_fits = leaf_fits s (child_cells part b.split Second) w b.second.leaf two;
+  first_no_less = child_shows s is part o.part_is b.split First l leaf b.first.leaf w o.fits t one;
+  second_no_less = child_shows s is part o.part_is b.split Second l leaf b.second.leaf w o.fits t two;
+  first_shows = f;
+  second_shows = g;
 }

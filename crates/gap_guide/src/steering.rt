@@ -3,6 +3,7 @@
 ghost use Rattle.std.specs.Prelude.{◌≡◌, true, false, IfOk, IsTrue};
 ghost use Rattle.gap_box.specs.Splits.{lawful_split, child_cells};
 ghost use Rattle.gap_model.specs.Problems.{tangent_problem, IsPart};
+ghost use Rattle.gap_placed.specs.Showing.{ShowsSo};
 ghost use Rattle.gap_leaf.specs.Finding.{IsLeafFor};
 
 use crate::hint::witness_of;
@@ -10,9 +11,10 @@ use crate::seen::was_seen;
 use bumpalo::Bump;
 use gap_base::{Lots, OutOfMemory};
 use gap_box::{Part, Side, Split};
-use gap_drive::Guide;
+use gap_drive::{Branch, Guide};
 use gap_leaf::Hinted;
 use gap_model::{Leaf, NodeBound};
+use gap_placed::Placed;
 use gap_search::Ticket;
 use gap_start::{polished, rounding_of};
 use gap_tangent::MeanVariance;
@@ -47,17 +49,19 @@ impl<'a> Steering<'a> {
     }
 }
 
-/// The leaf of a child of a part.
+/// The leaf of a child of a part, with what it shows there.
 fn child_leaf<'a>(
     hinted: &Hinted<'_>,
     part: &Part,
     split: Split,
     side: Side,
     arena: &'a Bump,
-) -> Result<Leaf<'a>, OutOfMemory>
+) -> Result<Placed<'a>, OutOfMemory>
     requires part { IsPart (tangent_problem hinted.now.setting) part.now }
     requires lawful { IsTrue (lawful_split part.now split) }
-    ensures { IfOk result (IsLeafFor hinted.now.setting (child_cells part.now split side) hinted.now.hint) }
+    ensures leaf { IfOk result
+        (λ p. IsLeafFor hinted.now.setting (child_cells part.now split side) hinted.now.hint p.leaf) }
+    ensures shows { IfOk result (ShowsSo (tangent_problem hinted.now.setting) (child_cells part.now split side)) }
 {
     hinted.leaf(&part.child(split, side), arena)
 }
@@ -76,7 +80,7 @@ impl<'a, 'm> Guide<'a, MeanVariance<'m>> for Steering<'a> {
         bound: &MeanVariance<'m>,
         ticket: &Ticket,
         leaf: &Leaf<'a>,
-    ) -> Result<(Split, Leaf<'a>, Leaf<'a>), OutOfMemory> {
+    ) -> Result<Branch<'a>, OutOfMemory> {
         let Some(hint) = witness_of(bound, leaf) else {
             unreachable!()
         };
@@ -85,7 +89,11 @@ impl<'a, 'm> Guide<'a, MeanVariance<'m>> for Steering<'a> {
         let hinted = Hinted::new(bound, &hint);
         let first = child_leaf(&hinted, part, split, Side::First, self.arena)?;
         let second = child_leaf(&hinted, part, split, Side::Second, self.arena)?;
-        Ok((split, first, second))
+        Ok(Branch {
+            split,
+            first,
+            second,
+        })
     }
 
     fn candidate(

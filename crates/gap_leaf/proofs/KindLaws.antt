@@ -35,7 +35,7 @@ use Rattle.gap_leaf.specs.Showing.{tangent_shown, witness_shows, NoLessThanAt, I
 use Rattle.gap_leaf.specs.Voids.{third_of, first_void}
 use Rattle.gap_leaf.specs.Finding.{IsWitness, IsLeafFor}
 use Rattle.gap_leaf.specs.Entries.{point_entries, IsTangentOf}
-use Rattle.gap_leaf.specs.Candidates.{IsCandidate}
+use Rattle.gap_leaf.specs.Candidates.{theta_at, IsCandidate}
 use Rattle.gap_leaf.proofs.OrderLaws.{under_is, no_less_empty, IsCounted, shown_there, shown_le, no_less_most, shown_below, no_less_below}
 use Rattle.gap_leaf.proofs.EntryLaws.{entries_of_lots, entries_give, entries_ascend, entries_sum}
 use Rattle.gap_leaf.proofs.TryLaws.{void_found, none_found, not_empty, no_try, single_meets, found_for}
@@ -51,7 +51,7 @@ pub record IsAsked (s : Setting) (part : List Cell) (hint : Witness) : Type 0 wh
 asked_part : (s : Setting) (part : List Cell) (hint : Witness) → IsAsked s part hint → IsPart (tangent_problem s) part
 asked_part s part hint a = record { valid = a.valid; within = a.within }
 
-asked_count : (s : Setting) (part : List Cell) (hint : Witness) → IsAsked s part hint → can_meet part s.instance.held s.instance.held_most ≡ true → IsCounted s part
+pub asked_count : (s : Setting) (part : List Cell) (hint : Witness) → IsAsked s part hint → can_meet part s.instance.held s.instance.held_most ≡ true → IsCounted s part
 asked_count s part hint a e = record { valid = a.valid; order = a.setting.instance_is.limits_are.held_range; counted = e }
 
 both : {P : Type 0} (b : Bool) → b ≡ true → b ≡ false → P
@@ -70,7 +70,7 @@ never e = cc
 uncounted : (s : Setting) (part : List Cell) (x : List ℕ) → AreCells part → can_meet part s.instance.held s.instance.held_most ≡ false → IsPick part s.instance.held s.instance.held_most x → ⊥
 uncounted s part x h e p = both (can_meet part s.instance.held s.instance.held_most) (pick_meets part s.instance.held s.instance.held_most x h p) e
 
-count_empty : (s : Setting) (part : List Cell) → can_meet part s.instance.held s.instance.held_most ≡ false → shows s part Count ≡ Empty
+pub count_empty : (s : Setting) (part : List Cell) → can_meet part s.instance.held s.instance.held_most ≡ false → shows s part Count ≡ Empty
 unfolding shows
 count_empty s part e = ap count_shows e
 
@@ -130,7 +130,7 @@ void_leaf s part hint m a e q =
 same_point : (s : Setting) (part : List Cell) (point : List ℕ) (alpha tau : ℤ) → theta s part (eighths_at (point_entries 0 point)) alpha tau ≡ theta s part (lots_at point) alpha tau
 same_point s part point alpha tau = theta_from_same s part (eighths_at (point_entries 0 point)) (lots_at point) alpha tau (λ x. lag_same s (eighths_at (point_entries 0 point)) (lots_at point) alpha tau x (λ i h. entries_give point i))
 
-leaf_shown : (s : Setting) (part : List Cell) (point : List ℕ) (alpha tau : ℤ) (leaf : Leaf) → IsTangentOf point alpha tau leaf → shows s part leaf ≡ tangent_shown s part (lots_at point) alpha tau
+pub leaf_shown : (s : Setting) (part : List Cell) (point : List ℕ) (alpha tau : ℤ) (leaf : Leaf) → IsTangentOf point alpha tau leaf → shows s part leaf ≡ tangent_shown s part (lots_at point) alpha tau
 unfolding shows
 leaf_shown s part point alpha tau Count h = absurd h
 leaf_shown s part point alpha tau (Void a t third) h = absurd h
@@ -245,3 +245,7 @@ counted_by part I J h m b r e f g q t = subst (λ (k : InstanceValue). can_meet 
 
 pub single_by : (part : List Cell) (I J : InstanceValue) (h m : ℕ) (x : List ℕ) → h ≡ I.held → m ≡ I.held_most → I ≡ J → IsSingle part h m x → IsSingle part J.held J.held_most x
 single_by part I J h m x e f g s = subst (λ (k : InstanceValue). IsSingle part k.held k.held_most x) g (subst (λ (n : ℕ). IsSingle part I.held n x) f (subst (λ (n : ℕ). IsSingle part n m x) e s))
+
+-- what the best tangent shows
+pub best_shows : (s : Setting) (part : List Cell) (hint w : Witness) (t : ℤ) (leaf : Leaf) → IsAsked s part hint → can_meet part s.instance.held s.instance.held_most ≡ true → IsTangentOf w.y w.alpha w.tau leaf → t ≡ theta_at s part w → shows s part leaf ≡ tangent_shows (Some t)
+best_shows s part hint w t leaf a e l q = leaf_shown s part w.y w.alpha w.tau leaf l ∙ shown_there s part (lots_at w.y) w.alpha w.tau (asked_count s part hint a e) ∙ ap (λ (z : ℤ). tangent_shows (Some z)) (sym q)

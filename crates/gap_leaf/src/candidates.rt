@@ -1,6 +1,6 @@
 //! The witnesses that a tangent leaf is made of.
 
-ghost use Rattle.std.specs.Prelude.{◌≡◌, ◌⊎◌, ◌≤◌, true, IsSome, ℤ, pos, ◌≤ℤ◌, unsigned_abs};
+ghost use Rattle.std.specs.Prelude.{◌≡◌, ◌⊎◌, ◌≤◌, true, IsSome, IsTrue, ℤ, pos, ◌≤ℤ◌, unsigned_abs};
 ghost use Rattle.gap_base.specs.Lots.{lots_at};
 ghost use Rattle.gap_base.specs.Sizes.{most_multiplier};
 ghost use Rattle.gap_box.specs.Parts.{can_meet, IsWithin, root_cells};
@@ -8,10 +8,10 @@ ghost use Rattle.gap_model.specs.Leaves.{AreMultipliers};
 ghost use Rattle.gap_tangent.specs.Lines.{alpha_curve};
 ghost use Rattle.gap_tangent.specs.Seen.{setting_of};
 ghost use Rattle.gap_witness.specs.Having.{HasTangentPoint};
-ghost use Rattle.gap_leaf.specs.Candidates.{AreBestAt, IsMostAt, IsCandidate};
+ghost use Rattle.gap_leaf.specs.Candidates.{theta_at, AreBestAt, IsMostAt, IsCandidate};
 
 use crate::best::{best_alpha_from, best_tau_from};
-use gap_base::Witness;
+use gap_base::{Eighths, Witness};
 use gap_box::Part;
 use gap_tangent::{MeanVariance, Tangent};
 use gap_witness::kept_tangent_point;
@@ -147,38 +147,72 @@ pub(crate) fn kept_multipliers(
     }
 }
 
+/// Do the two points have the same eighths?
+#[tactic(auto, using(gap_tangent::proofs::CopyLaws::copied_none, gap_tangent::proofs::CopyLaws::copied_step, gap_tangent::proofs::CopyLaws::copied_whole, gap_tangent::proofs::CopyLaws::other_lengths, gap_tangent::proofs::CopyLaws::other_at))]
+fn is_same_point(x: &Eighths, y: &Eighths) -> bool
+    ensures { IsTrue result → x.now ≡ y.now }
+{
+    if x.len() != y.len() {
+        return false;
+    }
+    for i in 0..x.len() {
+        if x.get(i) != y.get(i) {
+            return false;
+        }
+    }
+    true
+}
+
+/// A witness with theta there.
+#[derive(Drop)]
+pub(crate) struct Best {
+    pub(crate) witness: Witness,
+    pub(crate) theta: i128,
+}
+
+/// The witness at a point with multipliers.
+fn best_at(y: &Eighths, at: Priced) -> Best
+    ensures { result ≡ record { witness = record { y = y.now; alpha = at.alpha; tau = at.tau }; theta = at.theta } }
+{
+    Best {
+        witness: Witness {
+            y: y.copy(),
+            alpha: at.alpha,
+            tau: at.tau,
+        },
+        theta: at.theta,
+    }
+}
+
 /// The witness of the greatest theta of three: a hint as it is, given by its tangent and multipliers, its point with new
 /// multipliers, and the tangent point from it with new multipliers. Of equal ones the first, but new multipliers before
-/// those of the hint.
+/// those of the hint. Where the tangent point is the hint's own its new multipliers aren't looked for again.
 pub(crate) fn best_witness(
     mv: &MeanVariance<'_>,
     tangent: &Tangent<'_>,
     part: &Part,
     alpha: i128,
     tau: i128,
-) -> Witness
+) -> Best
     requires same { tangent.now.setting ≡ setting_of mv.now }
     requires within { IsWithin part.now
         (root_cells tangent.now.setting.instance.least tangent.now.setting.instance.greatest) }
     requires has { HasTangentPoint tangent.now.setting part.now }
     requires multipliers { AreMultipliers tangent.now.setting.instance.turnover alpha tau }
-    ensures { IsCandidate tangent.now.setting part.now (record { y = tangent.now.eighths; alpha = alpha; tau = tau })
-        result }
+    ensures candidate { IsCandidate tangent.now.setting part.now
+        (record { y = tangent.now.eighths; alpha = alpha; tau = tau }) result.witness }
+    ensures theta { result.theta ≡ theta_at tangent.now.setting part.now result.witness }
+    ensures small { unsigned_abs result.theta ≤ 10000000000000000000000000000000000000 }
 {
     let kept = kept_multipliers(mv, tangent, part, alpha, tau);
     let moved_point = kept_tangent_point(mv, part, tangent.eighths());
+    if is_same_point(moved_point.eighths(), tangent.eighths()) {
+        return best_at(tangent.eighths(), kept);
+    }
     let moved_tangent = Tangent::of(&moved_point);
     let moved = new_multipliers(mv, &moved_tangent, part, kept.alpha, kept.tau);
     if kept.theta < moved.theta {
-        return Witness {
-            y: moved_point.eighths().copy(),
-            alpha: moved.alpha,
-            tau: moved.tau,
-        };
+        return best_at(moved_point.eighths(), moved);
     }
-    Witness {
-        y: tangent.eighths().copy(),
-        alpha: kept.alpha,
-        tau: kept.tau,
-    }
+    best_at(tangent.eighths(), kept)
 }

@@ -26,5 +26,5 @@ pub fn witness_for<'a>(
     requires hint { IsWitness (setting_of mv.now) hint.now }
     ensures { IfOk result (IsLeafFor (setting_of mv.now) part.now hint.now) }
 {
-    Hinted::new(mv, hint).leaf(part, arena)
+    Ok(Hinted::new(mv, hint).leaf(part, arena)?.leaf)
 }

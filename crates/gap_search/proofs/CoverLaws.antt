@@ -71,7 +71,7 @@ one_here x node nodes leaf f i z = record { n = 0; leaf = leaf; there = leaf_som
   only (suc m) other g j = let r = share_leaf x nodes m other g j in absurd (omega arith)
 
 -- where the count is 1 just one leaf has the list
-in_one : (x : List ℕ) (nodes : List Node) → sum_by (share x) nodes ≡ 1 → InOneLeaf nodes x
+pub in_one : (x : List ℕ) (nodes : List Node) → sum_by (share x) nodes ≡ 1 → InOneLeaf nodes x
 in_one x [] e = absurd (omega arith)
 in_one x (node ∷ nodes) e = by_fate (λ z. in_one x nodes z) node.fate (in_part node.part x) refl refl where
   counted : (v : ℕ) → share x node ≡ v → v + sum_by (share x) nodes ≡ 1

@@ -371,11 +371,11 @@ module _ (p : Problem) (b : Board) (waits : List (Option ℤ)) (keys : List ℤ)
       budget = refl;
     }
 
-    pub kept_settle_at : (one_part two_part : List Cell) (middle best : Option Best) (one_node two_node : ℕ) (nodes : List Node) (held : List (Option NodeId)) (mid after : List (Option ℤ)) (space : ℕ) → one_part ≡ child_cells c.part split First → two_part ≡ child_cells c.part split Second → OfferSingle p one_part b.best middle → OfferSingle p two_part middle best → one_node ≡ length b.nodes → two_node ≡ length b.nodes + 1 → nodes ≡ split_nodes b.nodes c.node.0 split first second → held ≡ slice_set b.held c.worker None → mid ≡ enqueued waits one_node (p.shows one_part first) → after ≡ enqueued mid two_node (p.shows two_part second) → space ≡ room → IsKept p (record { nodes = nodes; held = held; best = best; budget = b.budget }) after keys workers space
-    kept_settle_at one_part two_part middle best one_node two_node nodes held mid after space e g i j m n ne he qe re se =
+    pub kept_settle_at : (one_part two_part : List Cell) (middle best : Option Best) (one_node two_node : ℕ) (nodes : List Node) (held : List (Option NodeId)) (mid after : List (Option ℤ)) (space : ℕ) (one_shown two_shown : Shown) → one_part ≡ child_cells c.part split First → two_part ≡ child_cells c.part split Second → OfferSingle p one_part b.best middle → OfferSingle p two_part middle best → one_node ≡ length b.nodes → two_node ≡ length b.nodes + 1 → nodes ≡ split_nodes b.nodes c.node.0 split first second → held ≡ slice_set b.held c.worker None → mid ≡ enqueued waits one_node one_shown → after ≡ enqueued mid two_node two_shown → space ≡ room → p.shows (child_cells c.part split First) first ≡ one_shown → p.shows (child_cells c.part split Second) second ≡ two_shown → IsKept p (record { nodes = nodes; held = held; best = best; budget = b.budget }) after keys workers space
+    kept_settle_at one_part two_part middle best one_node two_node nodes held mid after space one_shown two_shown e g i j m n ne he qe re se f1 f2 =
         let k = kept_settle p b waits keys workers room h c holds split lawful first second f s best (settle_step one_part two_part middle best e g i j) in
-        let q1 : mid ≡ enqueued waits (length b.nodes) (p.shows (child_cells c.part split First) first) = qe ∙ ap (λ (x : ℕ). enqueued waits x (p.shows one_part first)) m ∙ ap (λ (x : List Cell). enqueued waits (length b.nodes) (p.shows x first)) e in
-        let q2 : after ≡ enqueued (enqueued waits (length b.nodes) (p.shows (child_cells c.part split First) first)) (length b.nodes + 1) (p.shows (child_cells c.part split Second) second) = re ∙ ap (λ (x : List (Option ℤ)). enqueued x two_node (p.shows two_part second)) q1 ∙ ap (λ (x : ℕ). enqueued (enqueued waits (length b.nodes) (p.shows (child_cells c.part split First) first)) x (p.shows two_part second)) n ∙ ap (λ (x : List Cell). enqueued (enqueued waits (length b.nodes) (p.shows (child_cells c.part split First) first)) (length b.nodes + 1) (p.shows x second)) g in
+        let q1 : mid ≡ enqueued waits (length b.nodes) (p.shows (child_cells c.part split First) first) = qe ∙ ap (λ (x : ℕ). enqueued waits x one_shown) m ∙ ap (λ (x : Shown). enqueued waits (length b.nodes) x) (sym f1) in
+        let q2 : after ≡ enqueued (enqueued waits (length b.nodes) (p.shows (child_cells c.part split First) first)) (length b.nodes + 1) (p.shows (child_cells c.part split Second) second) = re ∙ ap (λ (x : List (Option ℤ)). enqueued x two_node two_shown) q1 ∙ ap (λ (x : ℕ). enqueued (enqueued waits (length b.nodes) (p.shows (child_cells c.part split First) first)) x two_shown) n ∙ ap (λ (x : Shown). enqueued (enqueued waits (length b.nodes) (p.shows (child_cells c.part split First) first)) (length b.nodes + 1) x) (sym f2) in
         subst (λ (o : ℕ). IsKept p (record { nodes = nodes; held = held; best = best; budget = b.budget }) after keys workers o) (sym se)
         (subst (λ (o : List Node). IsKept p (record { nodes = o; held = held; best = best; budget = b.budget }) after keys workers room) (sym ne)
         (subst (λ (o : List (Option NodeId)). IsKept p (record { nodes = split_nodes b.nodes c.node.0 split first second; held = o; best = best; budget = b.budget }) after keys workers room) (sym he)

@@ -8,3 +8,5 @@ pub mod EndLaws
 pub mod PointLaws
 pub mod CoverLaws
 pub mod BarrenLaws
+pub mod StayLaws
+pub mod WholeLaws

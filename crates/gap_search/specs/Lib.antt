@@ -2,3 +2,5 @@ pub mod Boards
 pub mod Steps
 pub mod Kept
 pub mod Barren
+pub mod Stays
+pub mod Whole

@@ -6,18 +6,22 @@ ghost use Rattle.gap_box.specs.declared.split.Split.{Split};
 ghost use Rattle.gap_box.specs.Parts.{in_part, points};
 ghost use Rattle.gap_box.specs.Splits.{lawful_split};
 ghost use Rattle.gap_model.specs.declared.outcome.Best.{Best};
+ghost use Rattle.gap_model.specs.declared.outcome.Outcome.{Outcome};
 ghost use Rattle.gap_model.specs.declared.outcome.Outcome.TheVariants.{Closed, Bounded};
 ghost use Rattle.gap_model.specs.declared.shown.Shown.{Shown};
 ghost use Rattle.gap_model.specs.declared.shown.Shown.TheVariants.{AtLeast};
 ghost use Rattle.gap_model.specs.Order.{ShownLe};
-ghost use Rattle.gap_model.specs.Nodes.{splits_of, part_at};
+ghost use Rattle.gap_model.specs.Trees.{SplitTree};
+ghost use Rattle.gap_model.specs.Nodes.{Node, splits_of, part_at, IsTree, IsTreeOf};
 ghost use Rattle.gap_search.specs.Boards.{Board, node_held, BestAtMost, AllShow, IsShown, OpenLeaf, IsOpen, InOneLeaf, IsSound};
 ghost use Rattle.gap_search.specs.Steps.{Event, Run, Refusal, Grant, End};
+ghost use Rattle.gap_search.specs.Stays.{Stays};
+ghost use Rattle.gap_search.specs.Whole.{HasEachLeaf};
 
 use gap_model::NodeBound;
 
 /// Every list of steps by any workers keeps what holds between two steps; it never lowers the least that a leaf shows,
-/// nor makes the best worse.
+/// nor makes the best worse. A split that was there stays where it was, and so does a leaf that isn't split.
 pub fn every_order<B: NodeBound>()
     ensures sound { (bound : B) (old new : Board) (events : List Event) → IsSound (B.problem bound) old
         → Run (B.problem bound) old events new → IsSound (B.problem bound) new }
@@ -26,6 +30,8 @@ pub fn every_order<B: NodeBound>()
         → AllShow (B.problem bound) old.nodes least → AllShow (B.problem bound) new.nodes least }
     ensures never_worse { (bound : B) (old new : Board) (events : List Event) (value : ℤ)
         → Run (B.problem bound) old events new → BestAtMost old.best value → BestAtMost new.best value }
+    ensures stays { (bound : B) (old new : Board) (events : List Event) → IsSound (B.problem bound) old
+        → Run (B.problem bound) old events new → Stays old.nodes new.nodes }
 {}
 
 /// What a sound board says in the words of the problem. Each list of the root is in the part of exactly one leaf, so no
@@ -64,4 +70,16 @@ pub fn refusals<B: NodeBound>()
     ensures full_end { (bound : B) (board : Board) (best : Option Best) (value : ℤ) → IsSound (B.problem bound) board
         → splits_of board.nodes + 1 ≡ points (B.problem bound).whole
         → End (B.problem bound) board (Bounded best value) → ⊥ }
+{}
+
+/// A search ends in one way: of closed, without a list and bounded only one holds of a board, with one best and one bound.
+pub fn one_end<B: NodeBound>()
+    ensures { (bound : B) (board : Board) (one two : Outcome) → End (B.problem bound) board one
+        → End (B.problem bound) board two → one ≡ two }
+{}
+
+/// Where a list of nodes is a tree, each leaf of the nodes is a leaf of the tree of splits that stands at the root, at the
+/// same part. That each leaf of the tree is one of the nodes is said of `HasTree`.
+pub fn each_leaf_is_in_the_tree()
+    ensures { (nodes : List Node) (tree : SplitTree) → IsTree nodes → IsTreeOf nodes 0 tree → HasEachLeaf nodes tree }
 {}

@@ -5,5 +5,5 @@ mod laws;
 mod pieces;
 mod search;
 
-pub use laws::{every_order, refusals, sound_board};
+pub use laws::{each_leaf_is_in_the_tree, every_order, one_end, refusals, sound_board};
 pub use search::{Search, Ticket};

@@ -3,7 +3,6 @@
 ghost use Rattle.std.specs.Prelude.{◌≡◌, ℕ, ◌+◌, ◌<◌, ◌≤◌, true, false, Some, None, length, slice_index_or, slice_set, IsTrue, pos, MatchOption};
 ghost use Rattle.gap_box.specs.declared.node.NodeId.{NodeId};
 ghost use Rattle.gap_box.specs.Cells.{AreCells};
-ghost use Rattle.gap_box.specs.Parts.{IsWithin};
 ghost use Rattle.gap_queue.specs.Keys.{key_at};
 ghost use Rattle.gap_search.specs.Boards.{node_held, tickets, BestAtMost, BestAbove, IsBest};
 ghost use Rattle.gap_model.specs.declared.leaf.Leaf.{Leaf};
@@ -13,7 +12,7 @@ ghost use Rattle.gap_search.specs.Kept.{enqueued, leaf_enqueued, WaitBelow, IsCh
 
 use gap_base::Lots;
 use gap_box::{NodeId, Part};
-use gap_model::{Best, Leaf, NodeBound, Outcome, Shown};
+use gap_model::{Best, NodeBound, Outcome, Shown};
 use gap_queue::Queue;
 use gap_tree::Tree;
 
@@ -133,21 +132,13 @@ pub fn offer_single<B: NodeBound>(bound: &B, best: &mut Option<Best>, part: &Par
     }
 }
 
-/// Puts a new leaf into the queue, where it shows a number. What it shows is asked here, and nowhere else.
-pub fn enqueue<B: NodeBound>(
-    bound: &B,
-    queue: &mut Queue,
-    node: NodeId,
-    part: &Part,
-    leaf: &Leaf<'_>,
-)
-    requires within { IsWithin part.now (B.problem bound.now).whole }
-    requires in_range { (B.problem bound.now).in_range leaf.now ≡ true }
+/// Puts a new leaf into the queue, where it shows a number.
+pub fn enqueue(queue: &mut Queue, node: NodeId, shown: Shown)
     requires there { node.0 < length queue.old }
     requires fresh { key_at queue.old node.0 ≡ None }
-    ensures { queue.new ≡ enqueued queue.old node.0 ((B.problem bound.now).shows part.now leaf.now) }
+    ensures { queue.new ≡ enqueued queue.old node.0 shown }
 {
-    if let Shown::AtLeast(key) = bound.shown(part, leaf) {
+    if let Shown::AtLeast(key) = shown {
         queue.put(node, key);
     }
 }
@@ -175,7 +166,7 @@ pub fn take_up<B: NodeBound>(
     let _count = tree.nodes();
     if let Some(leaf) = tree.leaf_of(node) {
         let part = tree.part_of(node);
-        enqueue(bound, queue, node, &part, &leaf);
+        enqueue(queue, node, bound.shown(&part, &leaf));
         offer_single(bound, best, &part);
     }
 }

@@ -7,6 +7,7 @@ ghost use Rattle.gap_model.specs.Nodes.{splits_of, part_at, leaf_at};
 ghost use Rattle.gap_model.specs.declared.outcome.Best.{Best};
 ghost use Rattle.gap_model.specs.Tight.{IsTight};
 ghost use Rattle.gap_model.specs.declared.leaf.Leaf.{Leaf};
+ghost use Rattle.gap_placed.specs.Showing.{ShowsSo};
 ghost use Rattle.gap_search.specs.Boards.{State, Board, IsBest, Claimed, node_held, tickets, FitsPart, IsSound, OpenLeaf, IsOpen};
 ghost use Rattle.gap_search.specs.Steps.{Claim, ticket_of, Holds, FitsChild, Settle, release, with_best, improves, offered, Begins, Resumes, End};
 
@@ -17,6 +18,7 @@ use crate::pieces::{
 use gap_base::{Lots, OutOfMemory};
 use gap_box::{NodeId, Part, Side, Split};
 use gap_model::{Best, Leaf, NodeBound, Outcome};
+use gap_placed::Placed;
 use gap_queue::Queue;
 use gap_tree::Tree;
 use std::alloc::Global;
@@ -221,27 +223,30 @@ impl<'a, B: NodeBound> Search<'a, B> {
     }
 
     /// Splits the ticket's leaf in two, and offers the only list of each child that has just one, the first child's
-    /// before the second's. It costs O(log n) beside what the bound asks.
-    pub fn settle(&mut self, ticket: Ticket, split: Split, first: Leaf<'a>, second: Leaf<'a>)
+    /// before the second's. What the two leaves show comes with them, so the bound isn't asked for it. It costs O(log n),
+    /// as many steps as the leaf is deep, and what an offer costs.
+    pub fn settle(&mut self, ticket: Ticket, split: Split, first: Placed<'a>, second: Placed<'a>)
         requires holds { Holds self.old.board ticket }
         requires lawful { IsTrue (lawful_split ticket.part split) }
         requires fits_first { FitsChild (B.problem self.old.bound) self.old.board ticket
-            (child_cells ticket.part split First) first }
+            (child_cells ticket.part split First) first.leaf }
         requires fits_second { FitsChild (B.problem self.old.bound) self.old.board ticket
-            (child_cells ticket.part split Second) second }
+            (child_cells ticket.part split Second) second.leaf }
+        requires shows_first { ShowsSo (B.problem self.old.bound) (child_cells ticket.part split First) first }
+        requires shows_second { ShowsSo (B.problem self.old.bound) (child_cells ticket.part split Second) second }
         ensures bound { self.new.bound ≡ self.old.bound }
         ensures workers { self.new.workers ≡ self.old.workers }
-        ensures step { Settle (B.problem self.old.bound) self.old.board ticket split first.entry second.entry
+        ensures step { Settle (B.problem self.old.bound) self.old.board ticket split first.entry.leaf second.entry.leaf
             self.new.board }
         ensures sound { IsSound (B.problem self.old.bound) self.new.board }
     {
         let Ticket { part, node, worker } = ticket;
         let one = part.child(split, Side::First);
         let two = part.child(split, Side::Second);
-        let (first_node, second_node) = self.tree.split_leaf(node, split, first, second);
+        let (first_node, second_node) = self.tree.split_leaf(node, split, first.leaf, second.leaf);
         set_held(&mut self.held, worker, None);
-        enqueue(&self.bound, &mut self.queue, first_node, &one, &first);
-        enqueue(&self.bound, &mut self.queue, second_node, &two, &second);
+        enqueue(&mut self.queue, first_node, first.shown);
+        enqueue(&mut self.queue, second_node, second.shown);
         offer_single(&self.bound, &mut self.best, &one);
         offer_single(&self.bound, &mut self.best, &two);
     }

@@ -5,7 +5,8 @@ ghost use Rattle.std.specs.Prelude.{◌≡◌, None, replicate};
 use crate::barren::{Barren, opened};
 use gap_base::Lots;
 use gap_box::{NodeId, Split};
-use gap_model::{Entry, Leaf, Outcome};
+use gap_model::{Entry, Leaf, Outcome, Shown};
+use gap_placed::Placed;
 use gap_search::Search;
 use std::test::Fail;
 
@@ -38,7 +39,11 @@ fn settled(search: &mut Search<'_, Barren>) -> Option<NodeId>
             let node = ticket.node();
             let split = Split::Held(0);
             if ticket.part().lawful(split) {
-                search.settle(ticket, split, Leaf::Count, Leaf::Count);
+                let barren = Placed {
+                    leaf: Leaf::Count,
+                    shown: Shown::Empty,
+                };
+                search.settle(ticket, split, barren, barren);
             } else {
                 search.give_back(ticket);
             }

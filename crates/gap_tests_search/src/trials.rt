@@ -74,7 +74,7 @@ fn opened<'a>(
     // each cell of the root is in range
     let _count = root.len();
     match leaf_for(&small, &root, points, Shown::Nothing) {
-        Some(leaf) => Search::new(alloc, small, budget, workers, leaf, None),
+        Some(placed) => Search::new(alloc, small, budget, workers, placed.leaf, None),
         None => Err(OutOfMemory),
     }
 }
@@ -141,12 +141,12 @@ fn settle_one<'a, B: NodeBound, G: Guide<'a, B>>(
     };
     let leaf = search.leaf(&ticket);
     match guide.branch(search.bound(), &ticket, &leaf) {
-        Ok((split, first, second)) => {
-            let one = ticket.part().child(split, Side::First);
-            let two = ticket.part().child(split, Side::Second);
-            search.settle(ticket, split, first, second);
-            offer_candidate(search, guide, &one, &first);
-            offer_candidate(search, guide, &two, &second);
+        Ok(branch) => {
+            let one = ticket.part().child(branch.split, Side::First);
+            let two = ticket.part().child(branch.split, Side::Second);
+            search.settle(ticket, branch.split, branch.first, branch.second);
+            offer_candidate(search, guide, &one, &branch.first.leaf);
+            offer_candidate(search, guide, &two, &branch.second.leaf);
             true
         }
         Err(_) => {

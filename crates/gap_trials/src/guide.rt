@@ -7,6 +7,7 @@ ghost use Rattle.gap_model.specs.Priced.{problem_of, priced_shows};
 ghost use Rattle.gap_model.specs.Problems.{IsPart};
 ghost use Rattle.gap_model.specs.Tight.{is_tangent, IsTight};
 ghost use Rattle.gap_box.specs.Parts.{IsWithin};
+ghost use Rattle.gap_placed.specs.Showing.{ShowsSo};
 ghost use Rattle.gap_search.specs.Boards.{FitsPart};
 ghost use Rattle.gap_trials.specs.Small.{small, small_whole, small_meets, small_in_range, cost_of};
 
@@ -14,8 +15,9 @@ use crate::pricing::{cost, list_at, lots_of, numbers, place};
 use crate::small::{Small, meets};
 use gap_base::{Lots, OutOfMemory};
 use gap_box::{Cell, Part, Side, Split};
-use gap_drive::Guide;
+use gap_drive::{Branch, Guide};
 use gap_model::{Entry, Leaf, NodeBound, Shown};
+use gap_placed::Placed;
 use gap_search::Ticket;
 use std::alloc::Global;
 
@@ -221,11 +223,19 @@ fn is_tight(bound: &Small, part: &Part, leaf: &Leaf<'_>, shown: Shown) -> bool
     }
 }
 
-/// A leaf that is tight on a part, and shows no less there than this; None where the one that is proposed isn't so.
-pub fn leaf_for<'a>(bound: &Small, part: &Part, points: &'a [Entry], was: Shown) -> Option<Leaf<'a>>
+/// A leaf that is tight on a part, and shows no less there than this, with what it shows; None where the one that is
+/// proposed isn't so.
+pub fn leaf_for<'a>(
+    bound: &Small,
+    part: &Part,
+    points: &'a [Entry],
+    was: Shown,
+) -> Option<Placed<'a>>
     requires { IsPart (small bound.now.seed bound.now.lots) part.now }
-    ensures fits { IfSome result (λ leaf. FitsPart (small bound.now.seed bound.now.lots) part.now leaf) }
-    ensures shows { IfSome result (λ leaf. ShownLe was ((small bound.now.seed bound.now.lots).shows part.now leaf)) }
+    ensures fits { IfSome result (λ p. FitsPart (small bound.now.seed bound.now.lots) part.now p.leaf) }
+    ensures no_less { IfSome result
+        (λ p. ShownLe was ((small bound.now.seed bound.now.lots).shows part.now p.leaf)) }
+    ensures shows { IfSome result (λ p. ShowsSo (small bound.now.seed bound.now.lots) part.now p) }
 {
     let leaf = proposed(bound, part, points);
     if !is_in_range(&leaf) {
@@ -233,7 +243,7 @@ pub fn leaf_for<'a>(bound: &Small, part: &Part, points: &'a [Entry], was: Shown)
     }
     let shown = bound.shown(part, &leaf);
     if is_tight(bound, part, &leaf, shown) && is_no_more(was, shown) {
-        Some(leaf)
+        Some(Placed { leaf, shown })
     } else {
         None
     }
@@ -292,7 +302,7 @@ impl<'a> Guide<'a, Small> for Listing<'a> {
         bound: &Small,
         ticket: &Ticket,
         leaf: &Leaf<'a>,
-    ) -> Result<(Split, Leaf<'a>, Leaf<'a>), OutOfMemory> {
+    ) -> Result<Branch<'a>, OutOfMemory> {
         let part = ticket.part();
         let Some(split) = first_split(part) else {
             return Err(OutOfMemory);
@@ -310,7 +320,11 @@ impl<'a> Guide<'a, Small> for Listing<'a> {
         let Some(second) = leaf_for(bound, &two, self.points, was) else {
             return Err(OutOfMemory);
         };
-        Ok((split, first, second))
+        Ok(Branch {
+            split,
+            first,
+            second,
+        })
     }
 
     fn candidate(&mut self, _bound: &Small, _part: &Part, leaf: &Leaf<'a>) -> Option<Lots> {

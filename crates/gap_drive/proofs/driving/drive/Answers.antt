@@ -1,5 +1,6 @@
 use Rattle.std.proofs.Common.{◌∙◌, subst}
 use Rattle.gap_search.specs.Boards.{IsSound}
+use Rattle.gap_search.proofs.StayLaws.{stays_run}
 use Rattle.gap_drive.proofs.DrivenLaws.{same_on, driven_run, driven_on}
 use Rattle.gap_drive.proofs.TurnLaws.{refusals_at}
 use Rattle.gap_drive.proofs.driving.drive.Goals as goal
@@ -44,3 +45,13 @@ loop-more-preserved g c =
 
 pub returns-clause-refused : goal.returns-clause-refused
 returns-clause-refused g c = (c.loop-more.invariant.none c.loop-more-test.false).1
+
+pub returns-in_err-settle_all-clause-stays : goal.returns-in_err-settle_all-clause-stays
+returns-in_err-settle_all-clause-stays g c =
+    let d = returns-in_err-settle_all-clause-driven g c in
+    stays_run _ _ d.events _ c.inner-inner.ensures.sound d.run
+
+pub returns-clause-stays : goal.returns-clause-stays
+returns-clause-stays g c =
+    let d = c.loop-more.invariant.driven in
+    stays_run _ _ d.events _ c.inner-inner.ensures.sound d.run

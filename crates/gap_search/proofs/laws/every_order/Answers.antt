@@ -1,4 +1,5 @@
 use Rattle.gap_search.proofs.BoardLaws.{sound_run}
+use Rattle.gap_search.proofs.StayLaws.{stays_run}
 use Rattle.gap_search.proofs.CoverLaws.{never_lower, never_worse}
 use Rattle.gap_search.proofs.laws.every_order.Goals as goal
 
@@ -10,3 +11,6 @@ returns-clause-never_lower g c = λ bound old new events least h r k. never_lowe
 
 pub returns-clause-never_worse : goal.returns-clause-never_worse
 returns-clause-never_worse g c = λ bound old new events value r k. never_worse (g.B.NodeBound.problem bound) old events new value r k
+
+pub returns-clause-stays : goal.returns-clause-stays
+returns-clause-stays g c = λ bound old new events h r. stays_run (g.B.NodeBound.problem bound) old events new h r

@@ -25,9 +25,11 @@ invariant_of-self g c =
     let a = rw (← c.self.view_is, ← c.ticket.view_is) at c.requires.fits_first in
     let b = rw (← c.self.view_is, ← c.ticket.view_is) at c.requires.fits_second in
     let d = rw (← c.ticket.view_is) at c.requires.lawful in
-    let ne : c.split_leaf.new.self.nodes ≡ split_nodes c.self.inside.tree.nodes c.ticket.inside.node.0 c.args.split c.args.first c.args.second = ap (λ (t : TreeValue). t.nodes) c.split_leaf.ensures.value in
+    let f1 = rw (← c.self.view_is, ← c.ticket.view_is) at c.requires.shows_first in
+    let f2 = rw (← c.self.view_is, ← c.ticket.view_is) at c.requires.shows_second in
+    let ne : c.split_leaf.new.self.nodes ≡ split_nodes c.self.inside.tree.nodes c.ticket.inside.node.0 c.args.split c.args.first.leaf c.args.second.leaf = ap (λ (t : TreeValue). t.nodes) c.split_leaf.ensures.value in
     let re : c.split_leaf.new.self.room ≡ c.self.inside.tree.room = ap (λ (t : TreeValue). t.room) c.split_leaf.ensures.value in
-    kept_settle_at _ _ _ _ _ _ c.self.invariant _ h c.args.split d c.args.first c.args.second a b _ _ _ _ _ _ _ _ _ _ _ c.child-one.ensures.cells c.child-two.ensures.cells c.offer_single.ensures c.offer_single-2.ensures c.split_leaf.ensures.first c.split_leaf.ensures.second ne c.set_held.ensures c.enqueue.ensures c.enqueue-2.ensures re
+    kept_settle_at _ _ _ _ _ _ c.self.invariant _ h c.args.split d c.args.first.leaf c.args.second.leaf a b _ _ _ _ _ _ _ _ _ _ _ _ _ c.child-one.ensures.cells c.child-two.ensures.cells c.offer_single.ensures c.offer_single-2.ensures c.split_leaf.ensures.first c.split_leaf.ensures.second ne c.set_held.ensures c.enqueue.ensures c.enqueue-2.ensures re f1 f2
 
 pub returns-clause-sound : goal.returns-clause-sound
 returns-clause-sound g c = rw (← c.self.view_is) (invariant_of-self g c).sound
