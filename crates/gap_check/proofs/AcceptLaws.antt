@@ -1,5 +1,5 @@
 -- Bytes are accepted exactly where their items are right to the end mark, and then no fault is in them.
-use Rattle.std.proofs.Common.{◌≡◌, ◌≢◌, ℕ, ◌⊎◌, inl, inr, true, List, [], ◌∷◌, ◌++◌, map, length, All, Option, Some, None, Result, Ok, Err, refl, sym, ap, ◌∙◌, subst}
+use Rattle.std.proofs.Common.{◌≡◌, ℕ, ◌⊎◌, inl, inr, true, List, [], ◌∷◌, ◌++◌, map, All, Option, Some, None, Result, Ok, Err, refl, sym, ap, ◌∙◌, subst}
 use Rattle.std.proofs.lemmas.List.{append-nil}
 use Rattle.gap_model.specs.declared.cert_fault.CertFault.{CertFault}
 use Rattle.gap_model.specs.Outcomes.{IsToldRight}
@@ -10,21 +10,19 @@ use Rattle.gap_cert.specs.declared.field.Item.{Item}
 use Rattle.gap_cert.specs.declared.context.Phase.TheVariants as phase
 use Rattle.gap_cert.specs.declared.context.Context.{Context}
 use Rattle.gap_cert.specs.Contexts.{start, Runs}
-use Rattle.gap_cert.specs.Certificates.{CertHead, Certificate, Encodes, fields_of, group_in}
-use Rattle.gap_scan.specs.Scans.{Scan, HasScanned, next_of}
+use Rattle.gap_cert.specs.Certificates.{CertHead, Certificate, fields_of, group_in}
+use Rattle.gap_scan.specs.Scans.{Scan, next_of}
 use Rattle.gap_scan.proofs.MoreLaws.{none_spelled}
 use Rattle.gap_valid.specs.Heads.{instance_in}
-use Rattle.gap_valid.specs.Valid.{IsValid}
 use Rattle.gap_valid.specs.Verdicts.{VerdictValue, told_in, verdict_of}
 use Rattle.gap_valid.proofs.BoundLaws.{told_right}
 use Rattle.gap_judge.specs.Progress.{Progress, fresh_progress, progress_behind}
 use Rattle.gap_judge.specs.Faults.{IsItemRight, IsItemFault}
-use Rattle.gap_check.specs.Stages.{IsStage, EndsAt}
 use Rattle.gap_check.specs.Histories.{Judged, HasJudged, IsReadTo, IsFaultIn}
 use Rattle.gap_check.specs.Accepting.{Accepted}
 use Rattle.gap_check.proofs.StageLaws.{starts_at}
 use Rattle.gap_check.proofs.Sound.{IsRun, run_on, fresh_so_far, IsWhole, whole_at}
-use Rattle.gap_check.proofs.Follows.{Rest, follow, gives, gives_none, none_left}
+use Rattle.gap_check.proofs.Follows.{follow, gives, gives_none, none_left}
 use Rattle.gap_check.proofs.Complete.{Judges, WholeTells, whole_tells}
 use Rattle.gap_check.proofs.Faulty.{fault_apart}
 
@@ -71,7 +69,7 @@ judged_of v [] p q h = h
 judged_of v (f ∷ fields) p q h = (h.0, judged_of v fields (progress_behind p f) q h.1)
 
 -- the same items lead to one progress, and more lead on from there
-judged_on : (xs ys : List Group) (p m q : Progress) → Judged p xs m → Judged p (xs ++ ys) q → Judged m ys q
+pub judged_on : (xs ys : List Group) (p m q : Progress) → Judged p xs m → Judged p (xs ++ ys) q → Judged m ys q
 unfolding Judged
 judged_on [] ys p m q h k = subst (λ (r : Progress). Judged r ys q) h k
 judged_on (x ∷ xs) ys p m q h k = judged_on xs ys (progress_behind p x.field) m q h.1 k.1

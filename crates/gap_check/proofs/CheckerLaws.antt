@@ -1,5 +1,5 @@
 -- Where a checker stands, and what it answers at the end.
-use Rattle.std.proofs.Common.{◌≡◌, ◌≢◌, ℕ, ◌+◌, ◌≤◌, ◌^◌, ◌⊎◌, inl, inr, Bool, true, false, List, [], ◌++◌, length, All, Option, Some, None, Result, Ok, Err, IfOk, refl, sym, ap, ◌∙◌, subst, arith, length-append}
+use Rattle.std.proofs.Common.{◌≡◌, ℕ, inl, inr, true, false, List, [], ◌++◌, length, All, Option, Some, None, Result, Ok, Err, refl, sym, ap, ◌∙◌, subst, arith, length-append}
 use Rattle.gap_model.specs.declared.cert_fault.CertFault.{CertFault}
 use Rattle.gap_model.specs.declared.cert_fault.CertKind.TheVariants as kind
 use Rattle.gap_model.specs.Outcomes.{IsToldRight}
@@ -16,10 +16,10 @@ use Rattle.gap_valid.specs.Verdicts.{VerdictValue}
 use Rattle.gap_judge.specs.declared.stop.CertStop.{CertStop}
 use Rattle.gap_judge.specs.declared.stop.CertStop.TheVariants as stop
 use Rattle.gap_judge.specs.Progress.{Progress, fresh_progress}
-use Rattle.gap_check.specs.Histories.{HasJudged, IsReadTo, IsFaultIn, IsCutOff, IsFaultOf}
+use Rattle.gap_check.specs.Histories.{HasJudged, IsReadTo, IsFaultOf}
 use Rattle.gap_check.specs.Stages.{IsStage, EndsAt, IsAt}
-use Rattle.gap_check.specs.States.{State, reading, stopped, no_memory, HasRead}
-use Rattle.gap_check.specs.Going.{IsOn, IsGoing, Steps, Reads, standing, FitsChecker}
+use Rattle.gap_check.specs.States.{State, HasRead}
+use Rattle.gap_check.specs.Going.{IsOn, IsGoing, Reads, standing, FitsChecker}
 use Rattle.gap_check.specs.Accepting.{Accepted}
 use Rattle.gap_check.proofs.StageLaws.{starts_at}
 use Rattle.gap_check.proofs.HistoryLaws.{judged_fresh, judged_longer, fault_stays}

@@ -1,10 +1,8 @@
 -- The items of a valid certificate are right, one behind another, and tell what it tells.
-use Rattle.std.proofs.Common.{◌≡◌, ◌≢◌, ℕ, zero, suc, ◌+◌, ◌-◌, ◌<◌, ◌≤◌, ◌⊎◌, inl, inr, ◌==◌, ◌||◌, Bool, true, false, List, [], ◌∷◌, ◌++◌, map, drop, length, All, Option, Some, None, IsTrue, ℤ, pos, ◌<ℤ◌, refl, sym, ap, ◌∙◌, subst, arith, length-append}
-use Rattle.std.specs.Option.{ForSome}
+use Rattle.std.proofs.Common.{◌≡◌, ℕ, suc, ◌+◌, ◌≤◌, true, false, List, [], ◌∷◌, ◌++◌, map, drop, length, All, Some, IsTrue, ℤ, ◌<ℤ◌, refl, sym, ap, ◌∙◌, subst, arith, length-append}
 use Rattle.std.proofs.lemmas.List.{append_assoc, append-nil, map-append}
 use Rattle.std.proofs.lemmas.List.Elements.{All-nil, All-cons, All-head, All-tail}
 use Rattle.gap_base.specs.declared.weight.Weight.{Weight}
-use Rattle.gap_base.specs.declared.witness.Witness.{Witness}
 use Rattle.gap_box.specs.declared.cell.Cell.{Cell}
 use Rattle.gap_box.specs.declared.split.Split.{Split}
 use Rattle.gap_box.specs.declared.split.Side.TheVariants.{First, Second}
@@ -12,17 +10,17 @@ use Rattle.gap_box.specs.Splits.{child_cells, lawful_split}
 use Rattle.gap_model.specs.declared.outcome.Best.{Best}
 use Rattle.gap_model.specs.declared.outcome.Told.{Told}
 use Rattle.gap_model.specs.declared.shown.Shown.{Shown}
-use Rattle.gap_model.specs.declared.shown.Shown.TheVariants.{Nothing, AtLeast, Empty}
+use Rattle.gap_model.specs.declared.shown.Shown.TheVariants.{AtLeast, Empty}
 use Rattle.gap_model.specs.Order.{ShownLe}
 use Rattle.gap_cert.specs.declared.field.Field.{Field}
 use Rattle.gap_cert.specs.declared.field.Field.TheVariants as field
-use Rattle.gap_cert.specs.Certificates.{AssetLine, CertHead, CertLeaf, CertTree, CertClaim, CertSection, Certificate, tip, fork, closed, none, open_at, unfound, count, void, tangent, asset_field, leaf_field, tree_fields, claim_number, claim_fields, opening_fields, section_fields, sections_fields, head_fields, fields_of}
-use Rattle.gap_valid.specs.Heads.{instance_in, setting_in, root_in, IsHead}
-use Rattle.gap_valid.specs.CertTrees.{IsFormed, cert_splits, PlacedLeaf, cert_leaves, placed_shows, lesser_shown, least_shown, greater_shown, overall_shows, shown_bound, has_point}
-use Rattle.gap_valid.specs.Valid.{IsWeight, IsRightLeaf, Shows, Has, IsClaimRight, IsValidSection, IsValid}
-use Rattle.gap_valid.specs.Verdicts.{outcome_in, told_in}
+use Rattle.gap_cert.specs.Certificates.{AssetLine, CertHead, CertLeaf, CertTree, CertClaim, CertSection, Certificate, tip, fork, closed, none, open_at, unfound, count, void, tangent, asset_field, leaf_field, tree_fields, opening_fields, section_fields, sections_fields, head_fields, fields_of}
+use Rattle.gap_valid.specs.Heads.{setting_in, root_in, IsHead}
+use Rattle.gap_valid.specs.CertTrees.{IsFormed, cert_splits, cert_leaves, placed_shows, lesser_shown, least_shown, overall_shows, shown_bound}
+use Rattle.gap_valid.specs.Valid.{IsRightLeaf, IsClaimRight, IsValidSection, IsValid}
+use Rattle.gap_valid.specs.Verdicts.{told_in}
 use Rattle.gap_valid.proofs.ShownLaws.{lesser_empty}
-use Rattle.gap_judge.specs.Progress.{Progress, fresh_progress, progress_behind, section_begun, setting_now, shown_next, with_shown, with_told, told_when, behind_shown, outcome_now, claimed_now, is_open_outcome, with_asset, with_correlation, with_factor, with_diagonal}
+use Rattle.gap_judge.specs.Progress.{Progress, fresh_progress, progress_behind, section_begun, setting_now, shown_next, with_shown, with_told, told_when, behind_shown}
 use Rattle.gap_judge.specs.Faults.{IsItemRight, IsLeafRight, EndsWell, IsDominantHead, shown_now}
 use Rattle.gap_check.proofs.Yields.{for_none, for_some}
 use Rattle.gap_check.proofs.Forests.{lesser_turned}

@@ -1,29 +1,23 @@
 -- An item that is at fault isn't right.
-use Rattle.std.proofs.Common.{◌≡◌, ◌≢◌, ℕ, ◌+◌, ◌<◌, ◌≤◌, ◌⊎◌, inl, inr, true, false, List, [], drop, length, Option, Some, None, IsTrue, ℤ, pos, ◌<ℤ◌, ◌≤ℤ◌, refl, sym, ap, ◌∙◌, subst, arith}
-use Rattle.std.specs.Option.{ForSome}
+use Rattle.std.proofs.Common.{◌≡◌, ℕ, inl, inr, Some, ℤ, pos, ◌<ℤ◌, ◌≤ℤ◌, refl, sym, ap, ◌∙◌, subst, arith}
 use Rattle.std.proofs.lemmas.Int.{ints}
 use Rattle.gap_instance.proofs.LimitLaws.{broken_not_kept}
-use Rattle.gap_instance.specs.Objective.{cov_of}
-use Rattle.gap_psd.specs.Shifts.{IsDominantShift, IsFirstRow, rest}
-use Rattle.gap_psd.specs.Forms.{others}
-use Rattle.gap_model.specs.declared.shown.Shown.{Shown}
-use Rattle.gap_model.specs.declared.shown.Shown.TheVariants.{Nothing, AtLeast, Empty}
+use Rattle.gap_model.specs.declared.shown.Shown.TheVariants.{AtLeast, Empty}
 use Rattle.gap_model.specs.declared.cert_fault.CertFault.{CertFault}
 use Rattle.gap_model.specs.Leaves.{void_shows}
 use Rattle.gap_model.specs.Order.{ShownLe}
-use Rattle.gap_model.specs.Theta.{void_theta}
 use Rattle.gap_cert.specs.declared.field.Field.{Field}
 use Rattle.gap_cert.specs.declared.field.Field.TheVariants as field
 use Rattle.gap_cert.specs.Certificates.{CertHead, CertLeaf, count, void, tangent}
 use Rattle.gap_valid.specs.CertTrees.{leaf_shows}
-use Rattle.gap_valid.specs.Heads.{instance_in, shift_in}
-use Rattle.gap_judge.specs.Progress.{Progress, setting_now, first_part, shown_next, with_leaf, with_diagonal}
-use Rattle.gap_judge.specs.Faults.{IsItemRight, IsItemFault, IsDominantHead, IsShiftFault, IsLeafRight, IsLeafFault, IsEndFault, IsFewSplits, IsWeak, EndsWell, IsWrongLeaf, shown_now}
+use Rattle.gap_valid.specs.Heads.{instance_in}
+use Rattle.gap_judge.specs.Progress.{Progress, with_leaf, with_diagonal}
+use Rattle.gap_judge.specs.Faults.{IsItemRight, IsItemFault, IsDominantHead, IsShiftFault, IsLeafRight, IsLeafFault, IsEndFault, IsWeak, EndsWell, IsWrongLeaf, IsRightNext}
 
 apart : (a b : ℤ) → a <ℤ b → b ≤ℤ a → ⊥
 apart a b h k = grind (arith, ints)
 
-row_apart : (d o x y : ℤ) → d ≡ x → o ≡ y → d <ℤ o → y ≤ℤ x → ⊥
+pub row_apart : (d o x y : ℤ) → d ≡ x → o ≡ y → d <ℤ o → y ≤ℤ x → ⊥
 row_apart d o x y e f h k = apart d o h (rw e (rw f k))
 
 shift_apart : (h : CertHead) (behind : ℕ) (f : CertFault) → IsShiftFault h behind f → IsDominantHead h → ⊥
@@ -32,10 +26,10 @@ shift_apart h behind f w d = row_apart w.row.diagonal w.row.others _ _ w.first.i
 void_nothing : (t : ℤ) → t ≤ℤ pos 0 → void_shows (Some t) ≡ Empty → ⊥
 void_nothing t h e = grind (arith, ints)
 
-wrong_leaf : (p : Progress) (leaf : CertLeaf) (place : ℕ) (f : CertFault) → IsWrongLeaf p leaf place f → IsLeafRight p leaf → ⊥
+pub wrong_leaf : (p : Progress) (leaf : CertLeaf) (place : ℕ) (f : CertFault) → IsWrongLeaf p leaf place f → IsRightNext p leaf → ⊥
 unfolding leaf_shows
-wrong_leaf p count place f w r = let a = sym w.0 ∙ r.right refl in cc
-wrong_leaf p (void alpha tau) place f w r = void_nothing w.0 w.2 (ap void_shows (sym w.1) ∙ r.right refl)
+wrong_leaf p count place f w r = let a = sym w.0 ∙ r refl in cc
+wrong_leaf p (void alpha tau) place f w r = void_nothing w.0 w.2 (ap void_shows (sym w.1) ∙ r refl)
 wrong_leaf p (tangent v) place f w r = w
 
 weak_apart : (p : Progress) (behind : ℕ) (f : CertFault) → IsWeak p behind f → EndsWell p → ⊥
@@ -46,7 +40,7 @@ end_apart p behind f (inl w) e = let a = e.spent w.is_open in omega (arith, a, w
 end_apart p behind f (inr w) e = weak_apart p behind f w e
 
 leaf_apart : (p : Progress) (leaf : CertLeaf) (place behind : ℕ) (f : CertFault) → IsLeafFault p leaf place behind f → IsLeafRight p leaf → ⊥
-leaf_apart p leaf place behind f (inl w) r = wrong_leaf p leaf place f w r
+leaf_apart p leaf place behind f (inl w) r = wrong_leaf p leaf place f w r.right
 leaf_apart p leaf place behind f (inr w) r = end_apart (with_leaf p leaf) behind f w.2 (r.ends w.1)
 
 bound_apart : (a b : ℤ) → a ≤ℤ b → b <ℤ a → ⊥

@@ -1,6 +1,6 @@
 -- Scanned items are those that an encoding begins with.
-use Rattle.std.proofs.Common.{◌≡◌, ◌≢◌, ℕ, zero, suc, ◌+◌, ◌≤◌, take, ◌⊎◌, inl, inr, List, [], ◌∷◌, ◌++◌, map, length, Option, Some, None, Result, Ok, Err, refl, sym, ap, ◌∙◌, subst, arith}
-use Rattle.std.proofs.lemmas.List.{append_assoc, append-nil}
+use Rattle.std.proofs.Common.{◌≡◌, ℕ, ◌+◌, ◌≤◌, take, List, [], ◌∷◌, ◌++◌, length, Option, Some, None, Result, Ok, Err, refl, sym, ap, ◌∙◌, subst, arith}
+use Rattle.std.proofs.lemmas.List.{append_assoc}
 use Rattle.gap_model.specs.declared.cert_fault.CertFault.{CertFault}
 use Rattle.gap_cert.specs.declared.field.Group.{Group}
 use Rattle.gap_cert.specs.declared.field.Field.{Field}
@@ -13,12 +13,11 @@ use Rattle.gap_cert.specs.declared.context.Phase.TheVariants as phase
 use Rattle.gap_cert.specs.declared.context.Context.{Context}
 use Rattle.gap_model.specs.declared.cert_fault.CertKind.TheVariants.{Trail}
 use Rattle.gap_cert.specs.Bytes.{value_of}
-use Rattle.gap_cert.specs.Formats.{Format, says, Spot, Spells, read, natural_at, ◌>>=◌}
-use Rattle.gap_cert.specs.Contexts.{format_of, after, start, Runs}
+use Rattle.gap_cert.specs.Formats.{says, Spot, Spells, read, natural_at, ◌>>=◌}
+use Rattle.gap_cert.specs.Contexts.{format_of, after, Runs}
 use Rattle.gap_cert.proofs.FormatLaws.{one_group, reads, spot, natural_wrong}
-use Rattle.gap_scan.specs.Scans.{Scan, Scanned, HasScanned, next_of, next_by, answered}
+use Rattle.gap_scan.specs.Scans.{Scan, next_of, next_by, answered}
 use Rattle.gap_scan.proofs.ScanLaws.{spot_at}
-use Rattle.gap_scan.proofs.MoreLaws.{none_spelled}
 
 over_nothing : (c : Context) (g : Group) (bytes : List ℕ) → Spells (format_of c phase.Over) g bytes → ⊥
 unfolding Spells

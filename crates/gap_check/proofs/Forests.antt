@@ -1,12 +1,11 @@
 -- Trees that are read in order: the items so far begin a tree, whatever trees stand at the parts that are to come.
-use Rattle.std.proofs.Common.{◌≡◌, ℕ, suc, ◌+◌, ◌<◌, ◌≤◌, true, false, List, [], ◌∷◌, ◌++◌, map, drop, length, IsTrue, refl, sym, ap, ◌∙◌, subst, arith}
-use Rattle.std.proofs.lemmas.List.{append_assoc, append-nil, map-append}
+use Rattle.std.proofs.Common.{◌≡◌, ℕ, ◌+◌, ◌<◌, false, List, [], ◌∷◌, ◌++◌, drop, length, IsTrue, sym, ap, ◌∙◌, arith}
+use Rattle.std.proofs.lemmas.List.{append_assoc, append-nil}
 use Rattle.gap_box.specs.declared.cell.Cell.{Cell}
 use Rattle.gap_box.specs.declared.split.Split.{Split}
 use Rattle.gap_box.specs.declared.split.Side.TheVariants.{First, Second}
 use Rattle.gap_box.specs.Splits.{lawful_split, child_cells}
 use Rattle.gap_model.specs.declared.shown.Shown.{Shown}
-use Rattle.gap_model.specs.declared.shown.Shown.TheVariants.{Nothing, AtLeast, Empty}
 use Rattle.gap_cert.specs.declared.field.Field.{Field}
 use Rattle.gap_cert.specs.declared.field.Field.TheVariants as field
 use Rattle.gap_cert.specs.Certificates.{CertLeaf, CertTree, tip, fork, leaf_field, tree_fields}

@@ -1,6 +1,5 @@
 -- The items of a head, by the grammar: what comes next is due, and the stage behind it.
-use Rattle.std.proofs.Common.{◌≡◌, ◌≢◌, ℕ, zero, suc, ◌+◌, ◌-◌, ◌*◌, ◌/◌, ◌<◌, ◌≤◌, ◌⊎◌, inl, inr, ◌==◌, if◌then◌else◌, Bool, true, false, List, [], ◌∷◌, ◌++◌, length, All, Option, Some, None, ℤ, pos, unsigned_abs, refl, sym, ap, ◌∙◌, subst, arith, length-append}
-use Rattle.std.specs.Option.{ForSome}
+use Rattle.std.proofs.Common.{◌≡◌, ◌≢◌, ℕ, zero, suc, ◌+◌, ◌-◌, ◌*◌, ◌≤◌, ◌⊎◌, inl, inr, ◌==◌, if◌then◌else◌, Bool, true, false, List, [], ◌∷◌, ◌++◌, length, ℤ, unsigned_abs, refl, sym, ap, ◌∙◌, subst, arith, length-append}
 use Rattle.std.proofs.lemmas.Bool.{cases_eq}
 use Rattle.std.proofs.lemmas.Bool.Decides.{nat_tests}
 use Rattle.std.proofs.lemmas.List.Elements.{All-push, All-nil}
@@ -14,8 +13,8 @@ use Rattle.gap_cert.specs.Contexts.{after, behind_field, steps, enters}
 use Rattle.gap_cert.specs.Certificates.{AssetLine, CertHead, asset_field, group_in}
 use Rattle.gap_valid.specs.Heads.{pairs_before, rows_before, IsHead, IsAssetLine, IsDiagonal}
 use Rattle.gap_judge.specs.Progress.{Progress, fresh_progress, progress_behind, with_asset, with_correlation, with_factor, with_diagonal}
-use Rattle.gap_judge.specs.Faults.{IsItemRight, IsDominantHead}
-use Rattle.gap_judge.specs.Ready.{IsDue, IsUnfinished}
+use Rattle.gap_judge.specs.Faults.{IsItemRight}
+use Rattle.gap_judge.specs.Ready.{IsDue}
 use Rattle.gap_check.specs.Stages.{IsSameHead, IsFront, pair_count, entry_count, AreCounts, IsHeadAt, IsWholeAt, IsStage, EndsAt, IsAt}
 use Rattle.gap_judge.proofs.PairLaws.{mul_suc, pairs_twice, rows_twice, less_one, pairs_are, rows_are}
 use Rattle.gap_check.proofs.Nexts.{NextHead, NextAsset, NextCorrelation, NextFactor, NextDiagonal, NextSections}

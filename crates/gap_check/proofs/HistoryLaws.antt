@@ -1,5 +1,5 @@
 -- The items of bytes, one more at a time, and with more bytes behind them.
-use Rattle.std.proofs.Common.{◌≡◌, ◌≢◌, ℕ, suc, ◌+◌, ◌<◌, ◌≤◌, ◌⊎◌, inl, inr, List, [], ◌∷◌, ◌++◌, length, Option, Some, None, Result, Ok, Err, refl, sym, ap, ◌∙◌, subst, arith, length-append}
+use Rattle.std.proofs.Common.{◌≡◌, ℕ, ◌⊎◌, inl, inr, List, [], ◌∷◌, ◌++◌, Option, Some, None, Result, Ok, Err, refl, sym, ap, ◌∙◌, subst}
 use Rattle.std.proofs.lemmas.List.{append_assoc}
 use Rattle.gap_model.specs.declared.cert_fault.CertFault.{CertFault}
 use Rattle.gap_cert.specs.declared.field.Group.{Group}
@@ -7,10 +7,9 @@ use Rattle.gap_cert.specs.declared.field.Field.{Field}
 use Rattle.gap_cert.specs.declared.field.Item.{Item}
 use Rattle.gap_cert.specs.declared.field.Stop.{Stop}
 use Rattle.gap_cert.specs.declared.field.Stop.TheVariants.{More, Fault}
-use Rattle.gap_cert.specs.declared.context.Context.{Context}
 use Rattle.gap_cert.specs.Bytes.{AreBytes}
-use Rattle.gap_cert.specs.Formats.{Spot, Spells, read}
-use Rattle.gap_cert.specs.Contexts.{format_of, after, start, Runs}
+use Rattle.gap_cert.specs.Formats.{Spot, read}
+use Rattle.gap_cert.specs.Contexts.{format_of, after, Runs}
 use Rattle.gap_cert.proofs.FormatLaws.{Written, writes}
 use Rattle.gap_scan.specs.Scans.{Scan, Scanned, HasScanned, HasScannedMore, fresh_scan, fed_more, next_of, next_by, answered}
 use Rattle.gap_scan.proofs.ScanLaws.{scan_at, spot_at, bytes_append}
@@ -20,8 +19,7 @@ use Rattle.gap_judge.specs.Progress.{Progress, fresh_progress, progress_behind}
 use Rattle.gap_judge.specs.Faults.{IsItemRight, IsItemFault}
 use Rattle.gap_judge.specs.Ready.{IsDue}
 use Rattle.gap_check.specs.Stages.{IsAt}
-use Rattle.gap_check.specs.Histories.{Judged, HasJudged, IsReadTo, IsFaultIn}
-use Rattle.gap_check.proofs.HeadStages.{Goes}
+use Rattle.gap_check.specs.Histories.{Judged, HasJudged, IsFaultIn}
 use Rattle.gap_check.proofs.StageLaws.{goes}
 
 -- ---- items judged

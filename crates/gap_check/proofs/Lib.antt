@@ -15,3 +15,5 @@ pub mod AcceptLaws
 pub mod NextLaws
 pub mod CheckerLaws
 pub mod OnceLaws
+pub mod FaultOnce
+pub mod OneFault

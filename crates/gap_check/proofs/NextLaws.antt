@@ -1,32 +1,31 @@
 -- A checker behind the next item, and where there is none.
-use Rattle.std.proofs.Common.{◌≡◌, ◌≢◌, ℕ, zero, suc, ◌+◌, ◌*◌, ◌<◌, ◌≤◌, ◌⊎◌, inl, inr, Bool, true, false, List, [], ◌∷◌, ◌++◌, length, Option, Some, None, Result, Ok, Err, refl, sym, ap, ◌∙◌, subst, arith, length-append}
+use Rattle.std.proofs.Common.{◌≡◌, ℕ, zero, suc, ◌*◌, ◌<◌, ◌≤◌, List, ◌++◌, length, Option, Some, None, Result, Ok, Err, refl, sym, ap, ◌∙◌, arith, length-append}
 use Rattle.gap_model.specs.declared.cert_fault.CertFault.{CertFault}
 use Rattle.gap_cert.specs.declared.field.Version.{Version}
 use Rattle.gap_cert.specs.declared.field.Version.TheVariants.{One, Two}
 use Rattle.gap_cert.specs.declared.field.Group.{Group}
-use Rattle.gap_cert.specs.declared.field.Field.{Field}
 use Rattle.gap_cert.specs.declared.field.Item.{Item}
 use Rattle.gap_cert.specs.declared.field.Stop.{Stop}
 use Rattle.gap_cert.specs.declared.field.Stop.TheVariants.{More, Fault}
 use Rattle.gap_cert.specs.declared.context.Phase.{Phase}
 use Rattle.gap_cert.specs.declared.context.Phase.TheVariants as phase
 use Rattle.gap_cert.specs.declared.context.Context.{Context}
-use Rattle.gap_cert.specs.Bytes.{AreBytes, be, signed_be}
+use Rattle.gap_cert.specs.Bytes.{be}
 use Rattle.gap_cert.specs.Formats.{Format, natural, signed, guard, says, Spells, Spot, read}
 use Rattle.gap_cert.specs.Contexts.{head_format, asset_format, start_format, entries_format, portfolio_format, overall_format, node_format, format_of}
 use Rattle.gap_cert.proofs.Numbers.{length-be}
-use Rattle.gap_scan.specs.Scans.{Scan, Scanned, next_of, next_by, answered}
-use Rattle.gap_scan.proofs.ScanLaws.{scan_at, spot_at}
+use Rattle.gap_scan.specs.Scans.{Scan, next_of, next_by, answered}
+use Rattle.gap_scan.proofs.ScanLaws.{spot_at}
 use Rattle.gap_judge.specs.Progress.{Progress, progress_behind}
-use Rattle.gap_judge.specs.Faults.{IsItemRight, IsItemFault}
+use Rattle.gap_judge.specs.Faults.{IsItemRight}
 use Rattle.gap_judge.specs.Ready.{IsDue}
 use Rattle.gap_judge.specs.Stops.{IsStop}
 use Rattle.gap_judge.specs.declared.stop.CertStop.{CertStop}
 use Rattle.gap_judge.specs.declared.stop.CertStop.TheVariants as stop
 use Rattle.gap_check.specs.Stages.{IsStage, IsAt}
-use Rattle.gap_check.specs.Histories.{HasJudged, IsReadTo, IsFaultIn}
+use Rattle.gap_check.specs.Histories.{HasJudged, IsFaultIn}
 use Rattle.gap_check.specs.Going.{IsOn}
-use Rattle.gap_check.proofs.HistoryLaws.{Given, given_is, Behind, behind, judged_item, grammar_fault, item_fault}
+use Rattle.gap_check.proofs.HistoryLaws.{Given, given_is, behind, item_fault}
 
 -- ---- a group has a byte
 

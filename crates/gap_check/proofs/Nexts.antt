@@ -1,5 +1,5 @@
 -- What the group says that comes next by the grammar, by the phase.
-use Rattle.std.proofs.Common.{◌≡◌, ◌≢◌, ℕ, zero, suc, ◌+◌, ◌-◌, ◌*◌, ◌/◌, ◌^◌, ◌<◌, ◌≤◌, ◌⊎◌, inl, inr, ◌==◌, not, max, Bool, true, false, List, [], ◌∷◌, length, sum, Option, Some, None, ℤ, pos, negsuc, ◌≤ℤ◌, unsigned_abs, refl, sym, ap, ◌∙◌, subst, arith}
+use Rattle.std.proofs.Common.{◌≡◌, ℕ, zero, suc, ◌-◌, ◌*◌, ◌≤◌, ◌⊎◌, inl, inr, ◌==◌, not, true, false, List, Option, Some, None, ℤ, pos, ◌≤ℤ◌, unsigned_abs, refl, sym, ap, arith}
 use Rattle.std.specs.Option.{ForSome}
 use Rattle.std.proofs.lemmas.Bool.Decides.{nat_tests}
 use Rattle.std.proofs.lemmas.Int.{ints}
@@ -7,20 +7,18 @@ use Rattle.gap_base.specs.Sizes.{most_millionths, most_lots, most_turnover, most
 use Rattle.gap_base.specs.declared.witness.Witness.{Witness}
 use Rattle.gap_box.specs.declared.split.Split.{Split}
 use Rattle.gap_box.specs.declared.split.Split.TheVariants.{Held, Lots}
-use Rattle.gap_box.specs.Narrow.{asset_of}
 use Rattle.gap_model.specs.declared.cert_fault.CertKind.TheVariants.{Magic}
 use Rattle.gap_model.specs.Leaves.{AreMultipliers}
 use Rattle.gap_cert.specs.declared.field.Version.{Version}
 use Rattle.gap_cert.specs.declared.field.Version.TheVariants.{One, Two}
-use Rattle.gap_cert.specs.declared.field.Field.{Field}
 use Rattle.gap_cert.specs.declared.field.Field.TheVariants as field
 use Rattle.gap_cert.specs.declared.field.Group.{Group}
 use Rattle.gap_cert.specs.declared.context.Phase.{Phase}
 use Rattle.gap_cert.specs.declared.context.Phase.TheVariants as phase
 use Rattle.gap_cert.specs.declared.context.Context.{Context}
-use Rattle.gap_cert.specs.Formats.{Format, natural, signed, guard, says, Spells}
-use Rattle.gap_cert.specs.Fields.{mark, repeated, end_mark}
-use Rattle.gap_cert.specs.Contexts.{version_of, held_most_format, turnover_when, turnover_format, head_end, head_limits, head_numbers, head_format, asset_format, start_format, lots_format, portfolio_format, tau_most, multipliers_format, witness_format, witness_end, overall_when, overall_format, node_most, void_format, tangent_format, again_format, held_format, lots_split_format, node_behind, node_format, format_of}
+use Rattle.gap_cert.specs.Formats.{Format, natural, says, Spells}
+use Rattle.gap_cert.specs.Fields.{mark}
+use Rattle.gap_cert.specs.Contexts.{version_of, held_most_format, turnover_when, turnover_format, head_end, head_limits, head_numbers, head_format, asset_format, start_format, portfolio_format, tau_most, multipliers_format, witness_format, witness_end, overall_when, overall_format, node_most, void_format, tangent_format, again_format, held_format, lots_split_format, node_behind, node_format, format_of}
 use Rattle.gap_cert.specs.Certificates.{AssetLine, CertLeaf, count, void, tangent, asset_field, leaf_field, group_in}
 use Rattle.gap_valid.specs.Heads.{IsAssetLine, IsDiagonal}
 use Rattle.gap_valid.specs.CertTrees.{has_point}

@@ -1,5 +1,5 @@
 -- Bytes are accepted with one verdict.
-use Rattle.std.proofs.Common.{◌≡◌, ℕ, List, [], ◌∷◌, ◌++◌, map, refl, sym, ap, ◌∙◌, subst}
+use Rattle.std.proofs.Common.{◌≡◌, ℕ, List, [], ◌∷◌, map, refl, sym, ap, ◌∙◌, subst}
 use Rattle.gap_cert.specs.declared.field.Field.{Field}
 use Rattle.gap_cert.specs.declared.field.Group.{Group}
 use Rattle.gap_cert.specs.declared.context.Context.{Context}

@@ -1,44 +1,36 @@
 -- The items of sections, by the grammar: what comes next is due, and the stage behind it.
-use Rattle.std.proofs.Common.{◌≡◌, ◌≢◌, ℕ, zero, suc, ◌+◌, ◌-◌, ◌*◌, ◌<◌, ◌≤◌, ◌⊎◌, inl, inr, ◌==◌, ◌||◌, if◌then◌else◌, Bool, true, false, List, [], ◌∷◌, ◌++◌, drop, length, All, Option, Some, None, IsTrue, ℤ, pos, refl, sym, ap, ◌∙◌, subst, arith}
+use Rattle.std.proofs.Common.{◌≡◌, ◌≢◌, ℕ, ◌+◌, ◌-◌, ◌<◌, ◌≤◌, ◌⊎◌, inl, inr, ◌==◌, if◌then◌else◌, Bool, true, false, List, [], ◌∷◌, drop, length, All, Option, Some, None, IsTrue, ℤ, refl, sym, ap, ◌∙◌, subst, arith}
 use Rattle.std.specs.Option.{ForSome}
 use Rattle.std.proofs.lemmas.Bool.{cases_eq}
 use Rattle.std.proofs.lemmas.Bool.Decides.{nat_tests}
 use Rattle.std.proofs.lemmas.List.Elements.{All-nil, All-cons, All-head, All-tail}
-use Rattle.gap_base.specs.declared.weight.Weight.{Weight}
 use Rattle.gap_base.specs.declared.witness.Witness.{Witness}
 use Rattle.gap_box.specs.declared.cell.Cell.{Cell}
 use Rattle.gap_box.specs.declared.split.Split.{Split}
 use Rattle.gap_box.specs.declared.split.Side.{Side}
 use Rattle.gap_box.specs.declared.split.Side.TheVariants.{First, Second}
-use Rattle.gap_box.specs.Cells.{AreCells}
-use Rattle.gap_box.specs.Parts.{IsWithin, in_part}
 use Rattle.gap_box.specs.Splits.{lawful_split, child_cells}
 use Rattle.gap_box.proofs.SplitLaws.{child_within, child_are}
 use Rattle.gap_instance.specs.Limits.{MeetsLimits}
 use Rattle.gap_model.specs.declared.shown.Shown.{Shown}
 use Rattle.gap_model.specs.declared.shown.Shown.TheVariants.{Nothing, AtLeast, Empty}
-use Rattle.gap_model.specs.declared.outcome.Best.{Best}
 use Rattle.gap_model.specs.Leaves.{tangent_shows, AreMultipliers}
-use Rattle.gap_model.specs.Outcomes.{IsPortfolio}
-use Rattle.gap_model.specs.Theta.{theta}
-use Rattle.gap_cert.specs.declared.field.Field.{Field}
 use Rattle.gap_cert.specs.declared.field.Field.TheVariants as field
 use Rattle.gap_cert.specs.declared.field.Group.{Group}
 use Rattle.gap_cert.specs.declared.context.Phase.{Phase}
 use Rattle.gap_cert.specs.declared.context.Phase.TheVariants as phase
 use Rattle.gap_cert.specs.declared.context.Context.{Context}
-use Rattle.gap_cert.specs.Contexts.{after, behind_field, behind_leaf, behind_start, behind_objective, enters}
-use Rattle.gap_cert.specs.Certificates.{CertHead, CertLeaf, count, void, tangent, leaf_field, group_in}
+use Rattle.gap_cert.specs.Contexts.{behind_field, behind_leaf, enters}
+use Rattle.gap_cert.specs.Certificates.{CertHead, CertLeaf, count, void, tangent, leaf_field}
 use Rattle.gap_walk.specs.Walks.{splits_first, IsLawfulNext}
 use Rattle.gap_valid.specs.Heads.{instance_in, market_in, root_in, IsHead}
-use Rattle.gap_valid.specs.CertTrees.{leaf_shows, lesser_shown, has_point, IsWitness, IsLeafIn}
+use Rattle.gap_valid.specs.CertTrees.{leaf_shows, lesser_shown, IsWitness, IsLeafIn}
 use Rattle.gap_valid.specs.Valid.{IsWeight}
 use Rattle.gap_valid.proofs.HeadLaws.{root_is}
-use Rattle.gap_judge.specs.Progress as judge
 use Rattle.gap_judge.specs.Progress.{Progress, progress_behind, section_begun, with_shown, with_told, told_when, behind_shown, shown_next}
 use Rattle.gap_judge.specs.Faults.{IsItemRight, IsLeafRight, IsSplitRight, IsRightNext, objective_now}
-use Rattle.gap_judge.specs.Ready.{IsDue, IsBegun, IsNodeDue, IsLeafDue, IsPartOf}
-use Rattle.gap_check.specs.Stages.{IsSameHead, IsWholeAt, IsWitnessAt, IsOpening, HasBest, IsNodeAt, IsStage, EndsAt, IsAt}
+use Rattle.gap_judge.specs.Ready.{IsDue, IsLeafDue, IsPartOf}
+use Rattle.gap_check.specs.Stages.{IsSameHead, IsWholeAt, IsWitnessAt, IsOpening, HasBest, IsNodeAt, IsStage, IsAt}
 use Rattle.gap_check.proofs.Nexts.{NextStart, NextPortfolio, NextObjective, NextBound, NextOverall, IsLeafAt, NextLeaf, NextSplit, NextNode, NextEnd}
 use Rattle.gap_check.proofs.Yields.{for_none, for_some}
 use Rattle.gap_check.proofs.HeadStages.{Goes, at_phase}

@@ -1,35 +1,27 @@
 -- The certificate that the items so far begin.
-use Rattle.std.proofs.Common.{◌≡◌, ◌≢◌, ℕ, zero, suc, ◌+◌, ◌-◌, ◌*◌, ◌<◌, ◌≤◌, ◌⊎◌, inl, inr, ◌==◌, ◌||◌, if◌then◌else◌, Bool, true, false, List, [], ◌∷◌, ◌++◌, map, drop, length, All, Option, Some, None, IsTrue, ℤ, pos, ◌<ℤ◌, unsigned_abs, refl, sym, ap, ◌∙◌, subst, arith, length-append}
+use Rattle.std.proofs.Common.{◌≡◌, ℕ, suc, ◌+◌, ◌≤◌, ◌⊎◌, inl, inr, true, false, List, [], ◌∷◌, ◌++◌, map, length, All, Option, Some, None, ℤ, ◌<ℤ◌, refl, sym, ap, ◌∙◌, subst, arith, length-append}
 use Rattle.std.specs.Option.{ForSome}
-use Rattle.std.proofs.lemmas.Bool.{cases_eq}
-use Rattle.std.proofs.lemmas.Bool.Decides.{nat_tests}
 use Rattle.std.proofs.lemmas.List.{append_assoc, append-nil, map-append}
-use Rattle.std.proofs.lemmas.List.Elements.{All-nil, All-push}
-use Rattle.gap_base.specs.Sizes.{most_bound}
-use Rattle.gap_base.specs.declared.weight.Weight.{Weight}
+use Rattle.std.proofs.lemmas.List.Elements.{All-push}
 use Rattle.gap_base.specs.declared.witness.Witness.{Witness}
 use Rattle.gap_model.specs.declared.outcome.Best.{Best}
 use Rattle.gap_model.specs.declared.outcome.Told.{Told}
 use Rattle.gap_model.specs.declared.shown.Shown.{Shown}
-use Rattle.gap_model.specs.declared.shown.Shown.TheVariants.{Nothing, AtLeast, Empty}
+use Rattle.gap_model.specs.declared.shown.Shown.TheVariants.{AtLeast}
 use Rattle.gap_model.specs.Order.{ShownLe}
-use Rattle.gap_model.specs.Outcomes.{IsPortfolio}
 use Rattle.gap_cert.specs.declared.field.Version.{Version}
 use Rattle.gap_cert.specs.declared.field.Field.{Field}
 use Rattle.gap_cert.specs.declared.field.Field.TheVariants as field
 use Rattle.gap_cert.specs.declared.field.Group.{Group}
-use Rattle.gap_cert.specs.declared.context.Phase.{Phase}
-use Rattle.gap_cert.specs.declared.context.Phase.TheVariants as phase
-use Rattle.gap_cert.specs.declared.context.Context.{Context}
-use Rattle.gap_cert.specs.Certificates.{AssetLine, CertHead, CertLeaf, CertClaim, closed, none, open_at, unfound, CertTree, CertSection, Certificate, asset_field, leaf_field, tree_fields, claim_number, claim_fields, opening_fields, section_fields, sections_fields, head_fields, fields_of, group_in}
-use Rattle.gap_valid.specs.Heads.{instance_in, setting_in, root_in, IsHead}
+use Rattle.gap_cert.specs.Certificates.{CertHead, CertClaim, closed, none, open_at, unfound, CertTree, CertSection, tree_fields, opening_fields, section_fields, sections_fields, head_fields, group_in}
+use Rattle.gap_valid.specs.Heads.{instance_in, root_in}
 use Rattle.gap_box.specs.declared.cell.Cell.{Cell}
 use Rattle.gap_valid.specs.CertTrees.{IsFormed, PlacedLeaf, cert_leaves, placed_shows, least_shown, greater_shown, overall_shows, shown_bound, IsWitness, has_point, cert_splits}
-use Rattle.gap_valid.specs.Valid.{IsWeight, IsRightLeaf, AreSaid, Shows, Has, IsClosed, IsOpen, IsUnfound, IsClaimRight, IsValidSection}
+use Rattle.gap_valid.specs.Valid.{IsWeight, IsRightLeaf, AreSaid, Shows, Has, IsClaimRight, IsValidSection}
 use Rattle.gap_valid.specs.Verdicts.{outcome_in, told_in}
-use Rattle.gap_judge.specs.Progress.{Progress, setting_now, is_open_outcome, outcome_now, claimed_now, with_shown}
+use Rattle.gap_judge.specs.Progress.{Progress, setting_now, is_open_outcome, outcome_now, claimed_now}
 use Rattle.gap_judge.specs.Faults.{EndsWell, shown_now}
-use Rattle.gap_check.proofs.Forests.{Builds, Built, build_root}
+use Rattle.gap_check.proofs.Forests.{Builds, Built}
 
 -- the items of a list
 abbrev pub Are : Version → List Group → List Field → Type 0

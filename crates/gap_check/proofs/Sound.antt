@@ -1,17 +1,14 @@
 -- One item more of the certificate that the items so far begin, and the whole certificate behind the end mark.
-use Rattle.std.proofs.Common.{◌≡◌, ◌≢◌, ℕ, zero, suc, ◌+◌, ◌-◌, ◌<◌, ◌≤◌, ◌⊎◌, inl, inr, ◌==◌, ◌||◌, if◌then◌else◌, Bool, true, false, List, [], ◌∷◌, ◌++◌, map, drop, length, All, Option, Some, None, IsTrue, ℤ, pos, ◌<ℤ◌, unsigned_abs, refl, sym, ap, ◌∙◌, subst, arith}
+use Rattle.std.proofs.Common.{◌≡◌, ◌≢◌, ℕ, suc, ◌-◌, ◌<◌, ◌≤◌, ◌⊎◌, inl, inr, ◌==◌, if◌then◌else◌, true, false, List, [], ◌∷◌, ◌++◌, map, drop, length, All, Option, Some, None, IsTrue, ◌<ℤ◌, unsigned_abs, refl, sym, ap, ◌∙◌, subst, arith}
 use Rattle.std.specs.Option.{ForSome}
-use Rattle.std.proofs.lemmas.Bool.{cases_eq}
-use Rattle.std.proofs.lemmas.Bool.Decides.{nat_tests}
 use Rattle.std.proofs.lemmas.List.{append_assoc, append-nil, map-append}
 use Rattle.std.proofs.lemmas.List.Elements.{All-nil, All-push}
 use Rattle.gap_base.specs.Sizes.{most_bound}
 use Rattle.gap_base.specs.declared.weight.Weight.{Weight}
 use Rattle.gap_base.specs.declared.witness.Witness.{Witness}
 use Rattle.gap_box.specs.declared.cell.Cell.{Cell}
-use Rattle.gap_model.specs.declared.outcome.Best.{Best}
 use Rattle.gap_model.specs.declared.shown.Shown.{Shown}
-use Rattle.gap_model.specs.declared.shown.Shown.TheVariants.{Nothing, AtLeast, Empty}
+use Rattle.gap_model.specs.declared.shown.Shown.TheVariants.{Empty}
 use Rattle.gap_cert.specs.declared.field.Version.{Version}
 use Rattle.gap_cert.specs.declared.field.Field.{Field}
 use Rattle.gap_cert.specs.declared.field.Field.TheVariants as field
@@ -19,15 +16,14 @@ use Rattle.gap_cert.specs.declared.field.Group.{Group}
 use Rattle.gap_cert.specs.declared.context.Phase.{Phase}
 use Rattle.gap_cert.specs.declared.context.Phase.TheVariants as phase
 use Rattle.gap_cert.specs.declared.context.Context.{Context}
-use Rattle.gap_cert.specs.Contexts.{start, Runs, after, behind_field, behind_leaf, behind_start, behind_objective, steps, enters}
+use Rattle.gap_cert.specs.Contexts.{start, Runs, after, behind_field, behind_leaf, enters}
 use Rattle.gap_cert.specs.Certificates.{CertHead, CertLeaf, CertClaim, closed, none, open_at, unfound, CertSection, Certificate, asset_field, leaf_field, opening_fields, sections_fields, head_fields, fields_of, group_in, count, void, tangent}
 use Rattle.gap_valid.specs.Heads.{instance_in, root_in}
-use Rattle.gap_valid.specs.CertTrees.{PlacedLeaf, placed_shows, least_shown, lesser_shown, overall_shows, IsWitness, IsLeafIn, has_point}
-use Rattle.gap_valid.specs.Valid.{IsWeight, IsRightLeaf, AreSaid, IsValid, IsValidSection}
-use Rattle.gap_valid.specs.Verdicts.{VerdictValue, told_in, verdict_of}
+use Rattle.gap_valid.specs.CertTrees.{PlacedLeaf, placed_shows, least_shown, lesser_shown, IsWitness, IsLeafIn, has_point}
+use Rattle.gap_valid.specs.Valid.{IsRightLeaf, AreSaid, IsValid, IsValidSection}
+use Rattle.gap_valid.specs.Verdicts.{told_in}
 use Rattle.gap_judge.specs.Progress.{Progress, fresh_progress, progress_behind, with_asset, with_correlation, with_factor, with_diagonal, section_begun, is_open_outcome, setting_now, first_part, shown_next, with_shown, with_told, behind_shown}
-use Rattle.gap_judge.specs.Faults.{IsItemRight, IsLeafRight, IsSplitRight, EndsWell}
-use Rattle.gap_judge.specs.Ready.{IsNodeDue}
+use Rattle.gap_judge.specs.Faults.{IsItemRight, IsLeafRight}
 use Rattle.gap_check.specs.Stages.{IsHeadAt, IsWholeAt, IsOpening, HasBest, IsNodeAt, IsStage, EndsAt, IsAt, IsWitnessAt}
 use Rattle.gap_check.specs.Histories.{Judged}
 use Rattle.gap_check.proofs.Yields.{for_none, for_some}
@@ -36,7 +32,7 @@ use Rattle.gap_check.proofs.Nexts.{Next, next_is, NextHead, NextAsset, NextCorre
 use Rattle.gap_check.proofs.HeadStages.{steps_at}
 use Rattle.gap_check.proofs.SectionStages.{chosen, told_last, told_later, last_one, fewer_length, leaf_in, leaf_right, witness_in}
 use Rattle.gap_check.proofs.Forests.{Builds, build_root, build_leaf, build_split, placed_at, least_more}
-use Rattle.gap_check.proofs.SoFar.{Are, Done, SectionsAt, start_field, best_fields, ClaimsBy, ClaimsClosed, ClaimsNone, ClaimsOpen, ClaimsUnfound, TreeAt, InTree, fields_to, section_done}
+use Rattle.gap_check.proofs.SoFar.{Are, Done, SectionsAt, start_field, best_fields, ClaimsBy, TreeAt, InTree, fields_to, section_done}
 use Rattle.gap_check.proofs.SoundHead.{asset_end, correlation_end, factor_end, diagonal_end, are_more}
 
 abbrev bound_fields : Progress → List Field

@@ -1,12 +1,12 @@
 -- One item more of a head, of the certificate that the items so far begin.
-use Rattle.std.proofs.Common.{◌≡◌, ℕ, ◌+◌, List, [], ◌∷◌, ◌++◌, map, length, ℤ, refl, sym, ap, ◌∙◌, subst, arith}
+use Rattle.std.proofs.Common.{◌≡◌, List, [], ◌∷◌, ◌++◌, map, length, ℤ, refl, sym, ap, ◌∙◌, arith}
 use Rattle.std.proofs.lemmas.List.{append_assoc, append-nil, map-append}
 use Rattle.gap_cert.specs.declared.field.Version.{Version}
 use Rattle.gap_cert.specs.declared.field.Field.{Field}
 use Rattle.gap_cert.specs.declared.field.Field.TheVariants as field
 use Rattle.gap_cert.specs.declared.field.Group.{Group}
 use Rattle.gap_cert.specs.Certificates.{AssetLine, CertHead, asset_field, head_fields, group_in}
-use Rattle.gap_judge.specs.Progress.{Progress, with_asset, with_correlation, with_factor, with_diagonal}
+use Rattle.gap_judge.specs.Progress.{with_asset, with_correlation, with_factor, with_diagonal}
 use Rattle.gap_check.proofs.SoFar.{Are}
 
 -- a list is empty

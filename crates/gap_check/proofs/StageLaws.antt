@@ -1,6 +1,5 @@
 -- What comes next by the grammar is due, and leads from stage to stage.
-use Rattle.std.proofs.Common.{◌≡◌, ℕ, List, false, Option, refl, sym, subst}
-use Rattle.std.specs.Option.{ForSome}
+use Rattle.std.proofs.Common.{◌≡◌, ℕ, List, refl}
 use Rattle.gap_cert.specs.declared.field.Group.{Group}
 use Rattle.gap_cert.specs.declared.context.Phase.{Phase}
 use Rattle.gap_cert.specs.declared.context.Phase.TheVariants as phase
@@ -10,7 +9,7 @@ use Rattle.gap_cert.specs.Contexts.{format_of, start}
 use Rattle.gap_judge.specs.Progress.{Progress, fresh_progress}
 use Rattle.gap_check.specs.Stages.{IsStage, EndsAt, IsAt}
 use Rattle.gap_check.proofs.Nexts.{IsLastAt, Next, next_is}
-use Rattle.gap_check.proofs.HeadStages.{Goes, at_phase, head_goes, assets_go, correlations_go, factor_goes, diagonal_goes, sections_go}
+use Rattle.gap_check.proofs.HeadStages.{Goes, head_goes, assets_go, correlations_go, factor_goes, diagonal_goes, sections_go}
 use Rattle.gap_check.proofs.SectionStages.{start_goes, portfolio_goes, objective_goes, bound_goes, overall_goes, node_goes, end_goes}
 
 pub last_at : (q : Phase) (c : Context) (p : Progress) → IsStage q c p → IsLastAt q c

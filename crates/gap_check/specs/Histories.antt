@@ -1,10 +1,9 @@
 -- The items of bytes judged in their order, and the first fault of bytes. Own to portgap.
 
-use Rattle.std.specs.Prelude.{◌≡◌, ◌≢◌, ℕ, ◌⊎◌, true, List, [], ◌∷◌, ◌++◌, map, length, Some, None, Ok, Err}
+use Rattle.std.specs.Prelude.{◌≡◌, ◌≢◌, ℕ, ◌⊎◌, true, List, [], ◌∷◌, length, Some, None, Ok, Err}
 use Rattle.gap_model.specs.declared.cert_fault.CertFault.{CertFault}
 use Rattle.gap_model.specs.declared.cert_fault.CertKind.TheVariants as kind
 use Rattle.gap_cert.specs.declared.field.Group.{Group}
-use Rattle.gap_cert.specs.declared.field.Field.{Field}
 use Rattle.gap_cert.specs.declared.field.Item.{Item}
 use Rattle.gap_cert.specs.Bytes.{AreBytes}
 use Rattle.gap_scan.specs.Scans.{Scan, HasScanned, next_of}

@@ -1,13 +1,13 @@
 -- What the items so far say by the grammar: which numbers are in their ranges, and how many of each kind came. Own to
 -- portgap.
 
-use Rattle.std.specs.Prelude.{◌≡◌, ◌≢◌, ℕ, ◌+◌, ◌-◌, ◌*◌, ◌/◌, ◌<◌, ◌≤◌, ◌⊎◌, true, false, List, [], ◌∷◌, length, All, Option, Some, None, ℤ, unsigned_abs, sum}
+use Rattle.std.specs.Prelude.{◌≡◌, ℕ, ◌+◌, ◌-◌, ◌*◌, ◌/◌, ◌≤◌, ◌⊎◌, true, false, [], ◌∷◌, length, All, Option, Some, None, unsigned_abs, sum}
 use Rattle.std.specs.Option.{ForSome}
-use Rattle.gap_base.specs.Sizes.{most_millionths, most_lots, most_turnover, most_factor, most_bound}
+use Rattle.gap_base.specs.Sizes.{most_millionths, most_lots, most_turnover, most_factor}
 use Rattle.gap_base.specs.declared.witness.Witness.{Witness}
 use Rattle.gap_instance.specs.Limits.{MeetsLimits}
 use Rattle.gap_model.specs.declared.outcome.Best.{Best}
-use Rattle.gap_model.specs.declared.shown.Shown.TheVariants.{Empty, Nothing}
+use Rattle.gap_model.specs.declared.shown.Shown.TheVariants.{Empty}
 use Rattle.gap_model.specs.Leaves.{AreMultipliers}
 use Rattle.gap_model.specs.Outcomes.{IsPortfolio}
 use Rattle.gap_cert.specs.declared.context.Phase.{Phase}
@@ -15,7 +15,7 @@ use Rattle.gap_cert.specs.declared.context.Phase.TheVariants as phase
 use Rattle.gap_cert.specs.declared.context.Context.{Context}
 use Rattle.gap_cert.specs.Certificates.{CertHead}
 use Rattle.gap_valid.specs.Heads.{instance_in, root_in, IsHead, IsAssetLine, IsDiagonal}
-use Rattle.gap_judge.specs.Progress.{Progress, fresh_progress, setting_now}
+use Rattle.gap_judge.specs.Progress.{Progress, fresh_progress}
 use Rattle.gap_judge.specs.Faults.{IsDominantHead}
 use Rattle.gap_judge.specs.Ready.{IsBegun, IsNodeDue}
 

@@ -1,6 +1,6 @@
 -- Where a checker stands. Own to portgap.
 
-use Rattle.std.specs.Prelude.{◌≡◌, ℕ, ◌⊎◌, List, Result, Ok, Err}
+use Rattle.std.specs.Prelude.{ℕ, List, Result, Ok, Err}
 use Rattle.gap_model.specs.declared.cert_fault.CertFault.{CertFault}
 use Rattle.gap_scan.specs.Scans.{Scan}
 use Rattle.gap_judge.specs.Progress.{Progress}

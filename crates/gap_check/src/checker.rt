@@ -4,7 +4,7 @@ ghost use Rattle.std.specs.Prelude.{◌≡◌, ◌⊎◌, ℕ, List, [], ◌++�
 ghost use Rattle.gap_model.specs.declared.cert_fault.CertFault.{CertFault};
 ghost use Rattle.gap_model.specs.Outcomes.{IsToldRight};
 ghost use Rattle.gap_valid.specs.Verdicts.{VerdictValue};
-ghost use Rattle.gap_check.specs.Histories.{IsFaultOf};
+ghost use Rattle.gap_check.specs.Histories.{IsFaultIn, IsFaultOf};
 ghost use Rattle.gap_check.specs.States.{HasRead, IsStopped, answer_of, no_memory};
 ghost use Rattle.gap_check.specs.Accepting.{Accepted};
 
@@ -56,12 +56,14 @@ impl Checker {
     /// Reads the next piece: whatever the pieces, the answer is that of the bytes fed.
     ///
     /// # Errors
-    /// `Fault` with the first fault that the bytes so far decide; `OutOfMemory` where memory was refused. After either,
-    /// every call answers the same again.
+    /// `Fault` with the first fault that the bytes so far decide, so that Ok means that they decide none; `OutOfMemory`
+    /// where memory was refused. After either, every call answers the same again.
     pub fn feed(&mut self, piece: &[u8]) -> Result<(), CertStop>
         ensures read { (fed : List ℕ) → HasRead self.old fed → HasRead self.new (fed ++ piece.now) }
         ensures answer { result ≡ answer_of self.new }
         ensures stuck { IsStopped self.old → self.new ≡ self.old }
+        ensures first { (fed : List ℕ) (f : CertFault) → HasRead self.old fed → IsFaultIn (fed ++ piece.now) f
+            → (result ≡ Err (CertStop.Fault f)) ⊎ (result ≡ Err CertStop.OutOfMemory) }
     {
         if let Some(stop) = self.stop {
             return Err(stop);
@@ -79,7 +81,7 @@ impl Checker {
     ///
     /// # Errors
     /// `Fault` with the first fault of the bytes, `Short` where they end inside a certificate; `OutOfMemory` only where a
-    /// feed answered it.
+    /// feed answered it. What a feed answered is answered again.
     pub fn finish(self) -> Result<Verdict, CertStop>
         ensures yes { (fed : List ℕ) → HasRead self fed → IfOk result (Accepted fed) }
         ensures all { (fed : List ℕ) (v : VerdictValue) → HasRead self fed → Accepted fed v
@@ -87,6 +89,9 @@ impl Checker {
         ensures bound { (fed : List ℕ) → HasRead self fed → IfOk result (λ v. All (IsToldRight v.instance) v.sections) }
         ensures faults { (fed : List ℕ) (f : CertFault) → HasRead self fed → result ≡ Err (CertStop.Fault f)
             → IsFaultOf fed f }
+        ensures first { (fed : List ℕ) (f : CertFault) → HasRead self fed → IsFaultOf fed f
+            → (result ≡ Err (CertStop.Fault f)) ⊎ (result ≡ Err CertStop.OutOfMemory) }
+        ensures again { (stop : CertStop) → answer_of self ≡ Err stop → result ≡ Err stop }
         ensures memory { result ≡ Err CertStop.OutOfMemory → self ≡ no_memory }
     {
         let Checker {

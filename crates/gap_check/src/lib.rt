@@ -3,7 +3,9 @@
 #![tactic(auto)]
 
 mod checker;
+mod laws;
 mod reading;
 
 pub use checker::Checker;
 pub use gap_judge::{CertStop, Verdict};
+pub use laws::faults_are_alone;

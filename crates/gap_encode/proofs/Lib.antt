@@ -3,3 +3,4 @@ pub mod Reaches
 pub mod Sections
 pub mod Heads
 pub mod Validity
+pub mod Alone

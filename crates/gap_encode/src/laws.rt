@@ -3,7 +3,7 @@
 ghost use Rattle.std.specs.Prelude.{◌≡◌, ℕ, ◌++◌, [], List};
 ghost use Rattle.gap_cert.specs.declared.field.Version.{Version};
 ghost use Rattle.gap_cert.specs.declared.field.Version.TheVariants.{One, Two};
-ghost use Rattle.gap_cert.specs.Certificates.{Certificate, Encodes, spelling};
+ghost use Rattle.gap_cert.specs.Certificates.{Certificate, Encodes, fields_of, spelling};
 ghost use Rattle.gap_valid.specs.Valid.{IsValid};
 ghost use Rattle.gap_encode.specs.Writable.{IsWritable};
 
@@ -20,6 +20,14 @@ pub fn encodings_are_alone()
     ensures one { (v : Version) (a b : List ℕ) (c : Certificate) → Encodes v a c → Encodes v b c → a ≡ b }
     ensures front { (v w : Version) (a more : List ℕ) (c d : Certificate) → Encodes v a c → Encodes w (a ++ more) d
         → more ≡ [] }
+{}
+
+/// Bytes encode at most one certificate, and that in one version: whatever follows two encodings that begin alike, they
+/// are of one version and of one certificate, and so is what follows. A certificate is known by its items alone.
+pub fn certificates_are_alone()
+    ensures one { (v w : Version) (a b x y : List ℕ) (c d : Certificate) → Encodes v a c → Encodes w b d
+        → a ++ x ≡ b ++ y → (v ≡ w) × (c ≡ d) × (x ≡ y) }
+    ensures items { (c d : Certificate) → fields_of c ≡ fields_of d → c ≡ d }
 {}
 
 /// The numbers of a valid certificate are in their ranges.

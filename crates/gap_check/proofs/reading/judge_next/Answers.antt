@@ -1,10 +1,6 @@
-use Rattle.std.proofs.Common.{◌≡◌, Option, Result, Ok, sym, ap, ◌∙◌, subst}
+use Rattle.std.proofs.Common.{Option, Result, Ok, sym, ap, ◌∙◌}
 use Rattle.gap_model.specs.declared.cert_fault.CertFault.{CertFault}
 use Rattle.gap_cert.specs.declared.field.Item.{Item}
-use Rattle.gap_judge.specs.Progress.{Progress}
-use Rattle.gap_scan.specs.Scans.{Scan}
-use Rattle.gap_check.specs.Going.{IsOn}
-use Rattle.gap_check.specs.Histories.{HasJudged}
 use Rattle.gap_check.proofs.HistoryLaws.{judged_item}
 use Rattle.gap_check.proofs.NextLaws.{shorter, due, on_behind}
 use Rattle.gap_check.proofs.CheckerLaws.{none_on, none_read}
