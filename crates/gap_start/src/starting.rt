@@ -1,6 +1,6 @@
 //! A list to start a search from.
 
-ghost use Rattle.std.specs.Prelude.{◌≡◌, ◌≢◌, ℕ, ◌<◌, ◌≤◌, ◌↔◌, List, length, slice_index_or, IsTrue, IsNone, IfSome, pos, ◌+ℤ◌, ◌-ℤ◌, ◌≤ℤ◌, if◌then◌else◌, nat_lt};
+ghost use Rattle.std.specs.Prelude.{◌≡◌, ◌≢◌, ℕ, ◌<◌, ◌≤◌, ◌↔◌, List, length, slice_index_or, IsTrue, IsNone, IsSome, IfSome, pos, ◌+ℤ◌, ◌-ℤ◌, ◌≤ℤ◌, if◌then◌else◌, nat_lt};
 ghost use Rattle.std.specs.Option.{ForSome};
 ghost use Rattle.gap_base.specs.Lots.{lots_at};
 ghost use Rattle.gap_base.specs.Sums.{abs_z};
@@ -8,8 +8,9 @@ ghost use Rattle.gap_instance.specs.declared.order.By.{By};
 ghost use Rattle.gap_instance.specs.Instances.{IsInstance};
 ghost use Rattle.gap_instance.specs.Limits.{MeetsLimits, sum_of, turnover_of};
 ghost use Rattle.gap_instance.specs.Neighbours.{HasNoBetterNeighbour};
-ghost use Rattle.gap_instance.specs.Orders.{first_lots, sum_held, HeldGiveList, GivesList, SomeOrderGives};
+ghost use Rattle.gap_instance.specs.Orders.{first_lots, sum_held, HeldGiveList, IsOrder, GivesList, SomeOrderGives};
 ghost use Rattle.gap_instance.specs.Selections.{is_marked};
+ghost use Rattle.gap_start.specs.Plain.{IsPlain};
 ghost use Rattle.gap_start.specs.Starts.{AreFirst, AreMarks, IsFirstList, IsStart, IsStartOf};
 
 use crate::fill::brought;
@@ -19,9 +20,11 @@ use gap_instance::{By, Instance, Order, total_of};
 
 /// A list that meets the limits and has no better neighbour. For each number of assets from K1 to K2 the orders by key, by
 /// least and by greatest are tried in turn; the first list that one gives is polished. None comes exactly where no order
-/// gives a list with any of these numbers. Costs O(N * N) for each order that is tried, and takes no memory.
+/// gives a list with any of these numbers, so never for a plain instance. Costs O(N * N) for each order that is tried, and
+/// takes no memory.
 pub fn start(inst: &Instance, w: Weight) -> Option<Lots>
     ensures none { IsNone result → SomeOrderGives inst.now w.p w.q → ⊥ }
+    ensures plain { IsPlain inst.now → IsSome result }
     ensures some { IfSome result (IsStart inst.now w.p w.q) }
 {
     for k in inst.held()..inst.n() + 1 {
@@ -41,6 +44,7 @@ fn start_with(inst: &Instance, w: Weight, k: u16) -> Option<Lots>
     requires least { inst.now.held ≤ k }
     requires most { k ≤ inst.now.held_most }
     ensures none { IsNone result → (by : By) (order : List ℕ) → GivesList inst.now w.p w.q by k order → ⊥ }
+    ensures order { (by : By) × (order : List ℕ) × IsOrder inst.now w.p w.q by order }
     ensures some { IfSome result (IsStart inst.now w.p w.q) }
 {
     let first = start_by(inst, w, By::Key, k);
@@ -59,6 +63,7 @@ fn start_by(inst: &Instance, w: Weight, by: By, k: u16) -> Option<Lots>
     requires least { inst.now.held ≤ k }
     requires most { k ≤ inst.now.held_most }
     ensures none { IsNone result → (order : List ℕ) → GivesList inst.now w.p w.q by k order → ⊥ }
+    ensures order { (order : List ℕ) × IsOrder inst.now w.p w.q by order }
     ensures some { IfSome result (IsStart inst.now w.p w.q) }
 {
     let order = inst.order(w, by);
