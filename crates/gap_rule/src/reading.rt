@@ -10,8 +10,8 @@ use std::alloc::Global;
 /// How many bytes are read at a time.
 const PIECE: usize = 65_536;
 
-/// Reads at most `room` bytes of a file from the place `at` on into the buffer, and hands them to the consumer; answers
-/// how many there were, 0 at the end of the file.
+/// Reads at most `room` bytes of a file from the place `at` on into the buffer, none of them further than one behind the
+/// most that the consumer takes in, and hands them to it; answers how many there were, 0 at the end of the file.
 fn read_piece<F: Files, C: Consumer>(
     files: &mut F,
     name: &str,
@@ -22,6 +22,7 @@ fn read_piece<F: Files, C: Consumer>(
 ) -> Result<usize, ReadStop<C::Fault>>
     requires some { 0 < room }
     requires inside { room ≤ length buffer.old }
+    requires last { at + room ≤ C.MOST + 1 }
     ensures fed { IfTold (F.files files.old) name.now (λ held.
         IfOk result (λ count. IsFed held at (C.has_read consumer.old) → IsFed held (at + count) (C.has_read consumer.new))) }
     ensures refused { IfTold (F.files files.old) name.now (λ held. (fault : _) → result ≡ Err (ReadStop.Refused fault)
@@ -53,6 +54,7 @@ fn room_at(size: usize, most: u64, at: u64) -> usize
     ensures value { result ≡ min size (most + 1 - at) }
     ensures some { 0 < result }
     ensures inside { result ≤ size }
+    ensures last { at + result ≤ most + 1 }
 {
     size.min((most + 1 - at) as usize)
 }

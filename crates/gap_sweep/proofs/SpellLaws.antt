@@ -26,7 +26,7 @@ use Rattle.gap_sweep.specs.Runs.{HasDone, Finished, Stopped, under_way, at_the_e
 use Rattle.gap_sweep.specs.Certified.{sections_of, certificate, IsProperFront, IsCertified, IsCut}
 
 -- the bytes of sections, one behind the other
-abbrev sections_bytes : List CertSection → List ℕ
+abbrev pub sections_bytes : List CertSection → List ℕ
 sections_bytes [] = []
 sections_bytes (s ∷ sections) = section_bytes s ++ sections_bytes sections
 
@@ -96,7 +96,7 @@ filed_closing I asked done =
     filed-append (prints (frontier_text I asked.style done)) (appends end_bytes)
     ∙ ap (λ (x : List ℕ). x ++ filed (appends end_bytes)) (filed-prints (frontier_text I asked.style done)) ∙ filed-appends end_bytes
 
-filed_begun : (asked : Asked) (shift : ShiftValue) (done : List Done)
+pub filed_begun : (asked : Asked) (shift : ShiftValue) (done : List Done)
     → filed (begun_trace asked shift done) ≡ head_bytes asked.instance shift asked.nodes (length asked.weights) ++ sections_bytes (sections_of done)
 filed_begun asked shift done =
     filed-append (opening_trace asked shift) (weights_trace asked.instance.lots done)
@@ -136,7 +136,7 @@ spelled_all asked shift done all =
     ∙ ap (λ (x : List CertSection). spelling Two (certificate asked shift x)) (append-nil (sections_of done))
 
 -- what stands in the file behind its start
-file_is : (name : List ℕ) (f : FilesNow) (s : SinkNow) (new : Streams) (trace : List Mark) (was : List ℕ) → stream name f ≡ Some was
+pub file_is : (name : List ℕ) (f : FilesNow) (s : SinkNow) (new : Streams) (trace : List Mark) (was : List ℕ) → stream name f ≡ Some was
     → Did (started name f s) new trace → new.file ≡ Some (filed trace)
 file_is name f s new trace was told did = did.file [] (ap (option_map (λ (before : List ℕ). [])) told)
 
@@ -156,7 +156,7 @@ behind_some : (a b : List ℕ) → 0 < length b → 0 < length (a ++ b)
 behind_some a b some = let l = length-append a b in omega arith
 
 -- a front of what is filed without the end is a proper front of each certificate that goes on so
-front_proper : (asked : Asked) (shift : ShiftValue) (done : List Done) (part rest : List Mark) → begun_trace asked shift done ≡ part ++ rest
+pub front_proper : (asked : Asked) (shift : ShiftValue) (done : List Done) (part rest : List Mark) → begun_trace asked shift done ≡ part ++ rest
     → (more : List CertSection) → length done + length more ≡ length asked.weights
     → IsProperFront (filed part) (spelling Two (certificate asked shift (sections_of done ++ more)))
 front_proper asked shift done part rest split more count = record {
@@ -168,7 +168,7 @@ front_proper asked shift done part rest split more count = record {
 }
 
 -- a proper front of the whole is a proper front of the certificate
-less_proper : (asked : Asked) (shift : ShiftValue) (done : List Done) (part rest : List Mark) → 0 < length rest → whole_trace asked shift done ≡ part ++ rest
+pub less_proper : (asked : Asked) (shift : ShiftValue) (done : List Done) (part rest : List Mark) → 0 < length rest → whole_trace asked shift done ≡ part ++ rest
     → length done ≡ length asked.weights → IsProperFront (filed part) (spelling Two (certificate asked shift (sections_of done)))
 unfolding closing_trace
 less_proper asked shift done part rest left split all =
@@ -180,7 +180,7 @@ less_proper asked shift done part rest left split all =
       split = sym (spelled_all asked shift done all) ∙ ap filed split ∙ filed-append part rest;
     }
 
-no_more : (asked : Asked) (shift : ShiftValue) (done : List Done) (bytes : List ℕ) → length done ≡ length asked.weights
+pub no_more : (asked : Asked) (shift : ShiftValue) (done : List Done) (bytes : List ℕ) → length done ≡ length asked.weights
     → IsProperFront bytes (spelling Two (certificate asked shift (sections_of done)))
     → (more : List CertSection) → length done + length more ≡ length asked.weights → IsProperFront bytes (spelling Two (certificate asked shift (sections_of done ++ more)))
 no_more asked shift done bytes all proper [] count =
