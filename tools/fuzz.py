@@ -4,8 +4,8 @@
     tools/fuzz.py --count 100000 --seed 1 --jobs 4
 
 The inputs hang on the seed alone, and what is found doesn't hang on the number of processes. Of each input the program has
-to answer: a status of the table, nothing on standard error, the line of the refusal that the reference finds at its place,
-or the whole report; what the reference doesn't say to the byte, as what `solve` prints and writes, twice the same. `check`
+to answer: a status of the table, a message on standard error exactly where that isn't 0, the line of the refusal that the
+reference finds at its place, or the whole report; what the reference doesn't say to the byte, as what `solve` prints and writes, twice the same. `check`
 and `verify` accept whatever `solve` wrote, and say of each weight what `solve` printed; `upgrade` copies it; `check` accepts
 of the damaged certificates exactly those that the reference finds valid. Each input that isn't so is kept in a folder, and
 the answer is then 1. Python's standard library alone.
@@ -105,8 +105,8 @@ class Runner:
             raise Broken(f"{words}: ended by signal {-status}")
         if status not in (0, 2, 5, 6, 7, 8):
             raise Broken(f"{words}: status {status}: {err[:200]!r}")
-        if err:
-            raise Broken(f"{words}: said {err[:200]!r} on standard error")
+        if err.startswith(b"portgap") != (status != 0) or (err and not err.endswith(b"\n")):
+            raise Broken(f"{words}: status {status}, and said {err[:200]!r} on standard error")
         return status, out
 
     def twice(self, words, written=()):
