@@ -3,12 +3,14 @@
 
     tools/try_tools.py PROGRAM
 
-Sees that no file that was read is replaced, under whatever name, and that nothing waits at a pipe; runs the tests of
+Compares the definitions that docs/MODEL.md prints with the specs; sees that no file that was read is replaced, under
+whatever name, and that nothing waits at a pipe; runs the tests of
 tools/portgap.py; holds the program to tools/reference.py over some hundred damaged inputs; and refuses some allocations of
 each command where there is a C compiler. Answers 1 where one of these fails. Python's standard library alone.
 """
 
 import os
+import re
 import shutil
 import subprocess
 import sys
@@ -60,6 +62,20 @@ def try_nothing_is_lost(program, folder):
         sys.exit("a file that was read isn't as it was")
 
 
+def try_definitions():
+    """Each definition of docs/MODEL.md stands in the spec that is named above it, word for word."""
+    top = os.path.join(HERE, "..")
+    model = content(os.path.join(top, "docs", "MODEL.md")).decode()
+    blocks = re.findall(r"`(crates/\S+)`:\n\n```antt\n(.*?)\n```", model, re.DOTALL)
+    for name, block in blocks:
+        spec = content(os.path.join(top, name)).decode()
+        for definition in block.split("\n\n"):
+            if definition not in spec:
+                sys.exit(f"docs/MODEL.md prints a definition otherwise than {name}:\n{definition}")
+    if not blocks:
+        sys.exit("docs/MODEL.md prints no definition")
+
+
 def passes(*words, folder=None, **more):
     return subprocess.run([sys.executable, *words], cwd=folder, timeout=600, **more).returncode == 0
 
@@ -72,6 +88,7 @@ def is_kept_without_memory(program, folder):
 
 def main():
     program = os.path.abspath(sys.argv[1])
+    try_definitions()
     with tempfile.TemporaryDirectory() as folder:
         try_nothing_is_lost(program, folder)
         fuzz = [os.path.join(HERE, "fuzz.py"), "--program", program, "--count", str(INPUTS), "--keep", folder]
