@@ -203,7 +203,7 @@ def cells(outcome):
 def market_line(report):
     if report.assets is None:
         return None
-    return f"{report.assets} assets, {report.rounded} numerals rounded, shift {decimal(Fraction(report.shift, 10**18), 9)}"
+    return f"{report.assets} assets, {report.rounded} numerals rounded, shift {sci(Fraction(report.shift, 10**18))}"
 
 
 def table(report):

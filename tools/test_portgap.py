@@ -51,7 +51,7 @@ row 3 weight 2/4 risk 100/10000 return 11/10000 efficient
 """
 
 MADE_TABLE = """\
-2 assets, 1 numerals rounded, shift 0.500000000
+2 assets, 1 numerals rounded, shift 5.00e-01
 weight  state   nodes     objective         bound       gap    gap %  deviation %  return %  frontier   held
 0/1     closed      0  -0.002000000  -0.002000000         0   0.0000      20.0000    0.2000  efficient  Y 100%
 1/4     open        7   0.003000000   0.001500000  1.50e-03  50.0000      20.0000    0.1200  dominated  X 80%, Y 20%

@@ -3,9 +3,9 @@
 
     tools/try_tools.py PROGRAM
 
-Compares the definitions that docs/MODEL.md prints with the specs; sees that no file that was read is replaced, under
-whatever name, and that nothing waits at a pipe; runs the tests of
-tools/portgap.py; holds the program to tools/reference.py over some hundred damaged inputs; and refuses some allocations of
+Compares the definitions that docs/MODEL.md prints with the specs; runs the commands of docs/USING.md, but for those of the
+real market; sees that no file that was read is replaced, under whatever name, and that nothing waits at a pipe; runs the tests
+of tools/portgap.py; holds the program to tools/reference.py over some hundred damaged inputs; and refuses some allocations of
 each command where there is a C compiler. Answers 1 where one of these fails. Python's standard library alone.
 """
 
@@ -76,6 +76,25 @@ def try_definitions():
         sys.exit("docs/MODEL.md prints no definition")
 
 
+def try_tour(program, folder):
+    """The commands of docs/USING.md in their order, in a folder that looks like the top of the repository."""
+    top = os.path.abspath(os.path.join(HERE, ".."))
+    for name in ("tools", "examples"):
+        os.symlink(os.path.join(top, name), os.path.join(folder, name))
+    os.mkdir(os.path.join(folder, "bin"))
+    os.symlink(program, os.path.join(folder, "bin", "portgap"))
+    here = {**os.environ, "PORTGAP": program, "PATH": os.path.join(folder, "bin") + os.pathsep + os.environ["PATH"]}
+    tour = content(os.path.join(top, "docs", "USING.md")).decode()
+    commands = re.findall(r"^ {4,}((?:portgap|python3 tools/\w+\.py) .*)$", tour, re.MULTILINE)
+    commands = [command for command in commands if not re.search(r"dow30|old\.cert|explain", command)]
+    for command in commands:
+        done = subprocess.run(command, shell=True, cwd=folder, env=here, capture_output=True, text=True, timeout=120)
+        if done.returncode != 0 or not done.stdout and ">" not in command:
+            sys.exit(f"docs/USING.md: {command}: status {done.returncode}: {done.stdout}{done.stderr}")
+    if len(commands) < 9:
+        sys.exit(f"docs/USING.md has {len(commands)} commands to try")
+
+
 def passes(*words, folder=None, **more):
     return subprocess.run([sys.executable, *words], cwd=folder, timeout=600, **more).returncode == 0
 
@@ -89,6 +108,8 @@ def is_kept_without_memory(program, folder):
 def main():
     program = os.path.abspath(sys.argv[1])
     try_definitions()
+    with tempfile.TemporaryDirectory() as folder:
+        try_tour(program, folder)
     with tempfile.TemporaryDirectory() as folder:
         try_nothing_is_lost(program, folder)
         fuzz = [os.path.join(HERE, "fuzz.py"), "--program", program, "--count", str(INPUTS), "--keep", folder]
