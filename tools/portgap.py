@@ -361,8 +361,9 @@ class Progress:
             self.out.flush()
 
 
-def run(words, names=None, total=None):
-    """Runs the program, and answers its report. It is killed where this is interrupted."""
+def run(words, names=None, total=None, told=None):
+    """Runs the program, and answers its report; `told` is called with each line as it comes. Every command goes this way. The
+    program is killed where this is interrupted."""
     report, lines, progress = Report(names=names), [], Progress(total)
     words = [program(), *map(str, words)]
     with subprocess.Popen(words, stdin=subprocess.DEVNULL, stdout=subprocess.PIPE, stderr=subprocess.PIPE, text=True, encoding="utf-8") as child:
@@ -370,6 +371,8 @@ def run(words, names=None, total=None):
             for line in child.stdout:
                 lines.append(line)
                 progress.take(line)
+                if told is not None:
+                    told(line.rstrip("\n"))
             said = child.stderr.read().strip()
         except BaseException:
             child.kill()
@@ -429,13 +432,13 @@ def count_of_weights(job):
         return None
 
 
-def solve(market, job, cert=None):
+def solve(market, job, cert=None, told=None):
     """Solves each weight of a job. `market` is a Market or a port file, `job` a Job or a job file, in whose limits and present
-    lots names may stand; the certificate is kept where a name for it is given."""
+    lots names may stand; the certificate is kept where a name for it is given, and `told` is called with each line as it comes."""
     with files_of(market, job) as (port, task, names), tempfile.TemporaryDirectory(prefix="portgap-") as folder:
         target = os.path.join(folder, "cert") if cert is None else os.fspath(cert)
         with new_file(target, [port, task, *([job] if isinstance(job, (str, os.PathLike)) else [])]) as part:
-            return run(["solve", port, task, part], names, count_of_weights(task))
+            return run(["solve", port, task, part], names, count_of_weights(task), told)
 
 
 def quick(market, held, lots, weight, nodes=1000):

@@ -460,7 +460,7 @@ def summary(report):
     states = [outcome.state for outcome in report.outcomes]
     told = ", ".join(f"{states.count(state)} {state}" for state in ("closed", "open", "none") if state in states)
     line = market_line(report)
-    return f"{len(states)} weights: {told}." + (f" {line}." if line else "")
+    return f"{len(states)} weight{'' if len(states) == 1 else 's'}: {told}." + (f" {line}." if line else "")
 
 
 def page(report, title="Frontier"):

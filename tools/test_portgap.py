@@ -153,7 +153,9 @@ class Runs(Folder):
     job = portgap.Job(lots=20, held=2, weights=["1/2", "19/20", "1"], nodes=100)
 
     def test_solves_with_exact_numbers(self):
-        report = portgap.solve(THREE, self.job, "cert")
+        told = []
+        report = portgap.solve(THREE, self.job, "cert", told.append)
+        self.assertEqual("\n".join(told) + "\n", report.text)
         last = report.outcomes[2]
         self.assertEqual((last.state, last.weight, last.lots), ("closed", (1, 1), {1: 2, 2: 18}))
         self.assertEqual(last.objective, Fraction(1468 * 10**14, 4 * 10**20))
