@@ -4,8 +4,8 @@
     tools/fuzz.py --count 100000 --seed 1 --jobs 4
 
 The inputs hang on the seed alone, and what is found doesn't hang on the number of processes. Of each input the program has
-to answer: a status of the table, nothing on standard error, the line of the refusal that the reference finds at its place,
-or the whole report; what the reference doesn't say to the byte, as what `solve` prints and writes, twice the same. `check`
+to answer: a status of the table, a message on standard error exactly where that isn't 0, the line of the refusal that the
+reference finds at its place, or the whole report; what the reference doesn't say to the byte, as what `solve` prints and writes, twice the same. `check`
 and `verify` accept whatever `solve` wrote, and say of each weight what `solve` printed; `upgrade` copies it; `check` accepts
 of the damaged certificates exactly those that the reference finds valid. Each input that isn't so is kept in a folder, and
 the answer is then 1. Python's standard library alone.
@@ -105,8 +105,8 @@ class Runner:
             raise Broken(f"{words}: ended by signal {-status}")
         if status not in (0, 2, 5, 6, 7, 8):
             raise Broken(f"{words}: status {status}: {err[:200]!r}")
-        if err:
-            raise Broken(f"{words}: said {err[:200]!r} on standard error")
+        if err.startswith(b"portgap") != (status != 0) or (err and not err.endswith(b"\n")):
+            raise Broken(f"{words}: status {status}, and said {err[:200]!r} on standard error")
         return status, out
 
     def twice(self, words, written=()):
@@ -303,11 +303,37 @@ def judge(head, weight, line, best):
         raise Broken(f"of {weight} in {head.lots} lots the least objective is {best}, and the program says {line}")
 
 
-def answer_of(read):
-    try:
-        return 0, b"".join(line.encode() + b"\n" for line in read()) + b"yes\n"
-    except Refused as refused:
-        return said(refused)
+def audited(*names):
+    """What the auditor of tools/reference.py answers for the names of files."""
+    status, lines = reference.audit(names)
+    return status, b"".join(line.encode() + b"\n" for line in lines)
+
+
+class Noting(reference.Bytes):
+    """The bytes of a certificate; the places of bounds, and of alpha and tau, are noted."""
+
+    def __init__(self, data):
+        super().__init__(data)
+        self.places = []
+
+    def number(self, width, low, high, signed=False, kind="Range"):
+        if width == 16 and high >= 10**30:
+            # a bound as often as there are other numbers in a small certificate
+            self.places += [self.at] * (8 if high == 10**36 else 1)
+        return super().number(width, low, high, signed, kind)
+
+
+def weakened(draw, data):
+    """The certificate with a bound, an objective or a multiplier changed a little: what it claims may then be weak or wrong."""
+    source = Noting(data)
+    head = reference.read_head(source)
+    for _ in range(head.sections):
+        reference.read_section(source, head)
+    if not source.places:
+        return damaged(draw, data)
+    place = draw.choice(source.places)
+    value = int.from_bytes(data[place:place + 16], "big", signed=True) + draw.choice((1, 1, 2, -1, 10**15, -(10**15)))
+    return data[:place] + value.to_bytes(16, "big", signed=True) + data[place + 16:]
 
 
 def upgraded(runner, verdict, name, wanted):
@@ -327,10 +353,10 @@ def try_certificate(runner, draw):
         runner.put("one", wholes[1])
         upgraded(runner, verdict, "one", wholes[0])
     for _ in range(DAMAGES):
-        data = damaged(draw, draw.choice(wholes))
-        runner.put("damaged", data)
+        damage = draw.choice((damaged, damaged, damaged, weakened))
+        runner.put("damaged", damage(draw, draw.choice(wholes)))
         command = draw.choice((["check", "damaged"], ["check", "damaged"], ["upgrade", "damaged", "new"]))
-        runner.expect(answer_of(lambda: reference.read_certificate(data)[2]), *command)
+        runner.expect(audited("damaged"), *command)
 
 
 def try_verify(runner, draw):
@@ -344,15 +370,7 @@ def try_verify(runner, draw):
         task = drawn_job(draw, n) if draw.random() < 0.3 else odd_job(draw, job)
         runner.put("other", port)
         runner.put("task", task)
-
-        def read():
-            held = reference.read_port(port)
-            asked = reference.read_job(task, held.n)
-            head, weights, verdict = reference.read_certificate(cert)
-            reference.compare(head, weights, held, asked)
-            return verdict
-
-        runner.expect(answer_of(read), "verify", "other", "task", "cert")
+        runner.expect(audited("cert", "other", "task"), "verify", "other", "task", "cert")
 
 
 def try_words(runner, draw):

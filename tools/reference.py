@@ -1,4 +1,12 @@
+#!/usr/bin/env python3
 """What docs/FORMATS.md says of a port file, a job and a certificate, in plain Python, apart from the program's code.
+
+    tools/reference.py CERT
+    tools/reference.py CERT PORT JOB
+
+judges a certificate, and with PORT and JOB whether it is of these: it prints exactly the lines that `portgap check CERT` or
+`portgap verify PORT JOB CERT` prints, and ends with the same status. It shares no code with the program and nothing with the
+kit that the program is built by, so an auditor who trusts neither reads this file and runs it.
 
 `read_port`, `read_job` and `read_certificate` answer what the bytes say, or raise `Refused` with the line that the program
 prints. tools/fuzz.py holds the program to them. Python's standard library alone.
@@ -7,6 +15,7 @@ prints. tools/fuzz.py holds the program to them. Python's standard library alone
 import json
 import operator
 import re
+import sys
 
 MILLION = 10**6
 BLANKS = b" \t\r\n\x1a"
@@ -795,3 +804,50 @@ def compare(head, weights, market, job):
     for name, found, wanted in fields(head, weights, market, job):
         if found != wanted:
             raise Refused(8, f"differs {name} {found} {wanted}")
+
+
+# ---- the auditor
+
+USAGE = "usage: tools/reference.py CERT [PORT JOB]"
+
+
+def content(name):
+    try:
+        with open(name, "rb") as file:
+            return file.read()
+    except OSError as fault:
+        print(f"reference.py: couldn't read {name}: {fault.strerror}", file=sys.stderr)
+        raise Refused(3, None) from None
+
+
+def judged(cert, port=None, job=None):
+    """The lines of `check`, or with a port file and a job those of `verify`; the first refusal is raised, in the program's order."""
+    if port is None:
+        return read_certificate(content(cert))[2]
+    market = read_port(content(port))
+    asked = read_job(content(job), market.n)
+    head, weights, lines = read_certificate(content(cert))
+    compare(head, weights, market, asked)
+    return lines
+
+
+def audit(names):
+    """The status and the lines for the names of a certificate, and of a port file and a job where it has to be of these."""
+    try:
+        return 0, [*judged(*names), "yes"]
+    except Refused as refused:
+        return refused.status, [line for line in [refused.line] if line is not None]
+
+
+def main():
+    names = sys.argv[1:]
+    if len(names) not in (1, 3) or names[0].startswith("-") or "" in names:
+        print(USAGE, file=sys.stderr)
+        return 2
+    status, lines = audit(names)
+    sys.stdout.write("".join(line + "\n" for line in lines))
+    return status
+
+
+if __name__ == "__main__":
+    sys.exit(main())

@@ -3,6 +3,7 @@
 //! memory, with calls that are to fail and without.
 #![tactic(auto)]
 
+mod failure;
 mod memory_files;
 mod memory_sink;
 mod outside;
@@ -15,6 +16,7 @@ mod store;
 mod tally;
 mod trouble;
 
+pub use failure::Failure;
 pub use memory_files::MemoryFiles;
 pub use memory_sink::MemorySink;
 pub use outside::{Files, Sink};

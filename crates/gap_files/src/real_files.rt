@@ -3,42 +3,107 @@ ghost use Rattle.std.specs.Prelude.{◌≡◌, ℕ, List, [], ◌≤◌, None, l
 ghost use Rattle.gap_files.specs.Outside.{Counts, NoneFell, SameElsewhere, SameEverywhere};
 ghost use Rattle.gap_files.specs.Tally.{count_of};
 
-use crate::{Files, Tally, Trouble};
+use crate::{Failure, Files, Tally, Trouble};
 use std::alloc::Global;
-use std::io::{Read, Seek, SeekFrom, Write};
+use std::fs::Metadata;
+use std::io::{ErrorKind, Read, Seek, SeekFrom, Write};
+use std::os::unix::fs::{FileTypeExt, MetadataExt};
 use std::{fs, io, rt};
 
 /// The files of the system, reached through the runtime of `main`. What they hold isn't told: that they read and keep
-/// bytes as files should is not proved. A read of a missing file is a fault. The unnamed file, whose name has no bytes,
-/// takes what is written to it and drops it.
+/// bytes as files should is not proved. A read of a missing file is a fault, and so is one of a name that is no regular
+/// file, as a directory or a pipe, which might wait for ever. A file that was read is never started, whatever name it is
+/// called by then: that is a fault before anything is touched. The unnamed file, whose name has no bytes, takes what is
+/// written to it and drops it.
 #[derive(Drop)]
 pub struct RealFiles<'a, R: rt::Files> {
     rt: &'a R,
+    alloc: Global,
     reads: Tally,
     writes: Tally,
+    seen: Vec<FilePlace>,
+    failure: Option<Failure>,
+}
+
+// Where a file stands in the system. Names whose places are equal are names of one file.
+#[derive(Clone, Copy, PartialEq, Eq)]
+struct FilePlace {
+    device: u64,
+    number: u64,
 }
 
 impl<'a, R: rt::Files> RealFiles<'a, R> {
-    /// The files that `rt` reaches, with every count at 0. It takes no memory until a call fails.
+    /// The files that `rt` reaches, with every count at 0. It takes no memory until a file is read or a call fails.
     pub fn new(rt: &'a R, alloc: Global) -> RealFiles<'a, R>
         ensures reads { (name : List ℕ) → (⟦<RealFiles<'a, R> as Files>⟧.files result).read_faults name ≡ 0 }
         ensures writes { (name : List ℕ) → (⟦<RealFiles<'a, R> as Files>⟧.files result).write_faults name ≡ 0 }
     {
         RealFiles {
             rt,
+            alloc,
             reads: Tally::new(alloc),
             writes: Tally::new(alloc),
+            seen: Vec::new(alloc),
+            failure: None,
         }
     }
 
-    // Opens the file and fills `buf` from its byte `at` on, up to the end of the file.
-    fn read_open(&self, name: &str, at: u64, buf: &mut [u8]) -> io::Result<usize>
-        ensures { IfOk result (λ count. count ≤ length buf.new) }
-    {
-        let mut file = fs::open(self.rt, name)?;
-        file.seek(SeekFrom::Start(at))?;
-        fill(&mut file, buf)
+    /// The last call that failed, for a message. None where none has, and where memory for its name was refused.
+    pub fn failure(&self) -> Option<&Failure> {
+        self.failure.as_ref()
     }
+}
+
+// The place that the system tells of a file.
+fn place_of(about: &Metadata) -> FilePlace {
+    FilePlace {
+        device: about.dev(),
+        number: about.ino(),
+    }
+}
+
+// Opens a regular file and fills `buf` from its byte `at` on, up to the end of the file. Its place is then among those seen.
+fn read_open(
+    rt: &impl rt::Files,
+    seen: &mut Vec<FilePlace>,
+    name: &str,
+    at: u64,
+    buf: &mut [u8],
+) -> io::Result<usize>
+    ensures { IfOk result (λ count. count ≤ length buf.new) }
+{
+    let about = fs::metadata(rt, name)?;
+    if !about.is_file() {
+        return Err(io::Error::other("it is no regular file"));
+    }
+    let place = place_of(&about);
+    if !seen.contains(&place) {
+        seen.push(place)?;
+    }
+    let mut file = fs::open(rt, name)?;
+    file.seek(SeekFrom::Start(at))?;
+    fill(&mut file, buf)
+}
+
+// Whether this is the place of standard output.
+fn is_standard_output(rt: &impl rt::Files, place: FilePlace) -> bool {
+    match fs::metadata(rt, "/dev/stdout") {
+        Ok(about) => place_of(&about) == place,
+        Err(_) => false,
+    }
+}
+
+// Refuses a file that was read, and what would wait or takes no bytes: of what is no regular file a device of characters and
+// standard output are allowed.
+fn may_be_started(rt: &impl rt::Files, seen: &[FilePlace], about: &Metadata) -> io::Result<()> {
+    let place = place_of(about);
+    if seen.contains(&place) {
+        return Err(io::Error::other("it is a file that this run has read"));
+    }
+    if about.is_file() || about.file_type().is_char_device() || is_standard_output(rt, place) {
+        return Ok(());
+    }
+    Err(io::Error::other("it is no regular file"))
 }
 
 // Whether the name is that of the unnamed file, which isn't one of the system.
@@ -49,7 +114,12 @@ fn is_unnamed(name: &str) -> bool
 }
 
 // Makes the file empty, also one that is missing.
-fn make_empty(rt: &impl rt::Files, name: &str) -> io::Result<()> {
+fn make_empty(rt: &impl rt::Files, seen: &[FilePlace], name: &str) -> io::Result<()> {
+    match fs::metadata(rt, name) {
+        Ok(about) => may_be_started(rt, seen, &about)?,
+        Err(error) if error.kind() == ErrorKind::NotFound => {}
+        Err(error) => return Err(error),
+    }
     fs::create(rt, name)?;
     Ok(())
 }
@@ -96,9 +166,13 @@ impl<R: rt::Files> Files for RealFiles<'_, R> {
     } };
 
     fn read_at(&mut self, name: &str, at: u64, buf: &mut [u8]) -> Result<usize, Trouble> {
-        match self.read_open(name, at, buf) {
+        match read_open(self.rt, &mut self.seen, name, at, buf) {
             Ok(count) => Ok(count),
-            Err(_) => Err(self.reads.fault(name)),
+            Err(error) if error.kind() == ErrorKind::OutOfMemory => Err(Trouble::OutOfMemory),
+            Err(error) => {
+                self.failure = Failure::of(self.alloc, name, error);
+                Err(self.reads.fault(name))
+            }
         }
     }
 
@@ -114,9 +188,12 @@ impl<R: rt::Files> Files for RealFiles<'_, R> {
         if is_unnamed(name) {
             return Ok(());
         }
-        match make_empty(self.rt, name) {
+        match make_empty(self.rt, self.seen.as_slice(), name) {
             Ok(()) => Ok(()),
-            Err(_) => Err(self.writes.fault(name)),
+            Err(error) => {
+                self.failure = Failure::of(self.alloc, name, error);
+                Err(self.writes.fault(name))
+            }
         }
     }
 
@@ -134,7 +211,10 @@ impl<R: rt::Files> Files for RealFiles<'_, R> {
         }
         match write_behind(self.rt, name, bytes) {
             Ok(()) => Ok(()),
-            Err(_) => Err(self.writes.fault(name)),
+            Err(error) => {
+                self.failure = Failure::of(self.alloc, name, error);
+                Err(self.writes.fault(name))
+            }
         }
     }
 }

@@ -11,6 +11,7 @@ use std::io::Print;
 pub struct RealSink<'a, R: Print> {
     rt: &'a R,
     faults: u64,
+    failure: Option<io::Error>,
 }
 
 impl<'a, R: Print> RealSink<'a, R> {
@@ -18,19 +19,28 @@ impl<'a, R: Print> RealSink<'a, R> {
     pub fn new(rt: &'a R) -> RealSink<'a, R>
         ensures { (⟦<RealSink<'a, R> as Sink>⟧.sink result).faults ≡ 0 }
     {
-        RealSink { rt, faults: 0 }
+        RealSink {
+            rt,
+            faults: 0,
+            failure: None,
+        }
     }
 
-    // Writes until all is taken, and answers whether it was: no if a write fails or takes nothing.
-    fn write_all(&self, bytes: &[u8]) -> bool {
+    /// The system's reason for the last write that failed, for a message; None where none has.
+    pub fn failure(&self) -> Option<&io::Error> {
+        self.failure.as_ref()
+    }
+
+    // Writes until all is taken.
+    fn write_all(&self, bytes: &[u8]) -> io::Result<()> {
         let mut done = 0;
         while done < bytes.len() {
-            match self.rt.write_some(&bytes[done..]) {
-                Ok(0) | Err(_) => return false,
-                Ok(more) => done += more,
+            match self.rt.write_some(&bytes[done..])? {
+                0 => return Err(io::Error::from(io::ErrorKind::WriteZero)),
+                more => done += more,
             }
         }
-        true
+        Ok(())
     }
 }
 
@@ -38,10 +48,13 @@ impl<R: Print> Sink for RealSink<'_, R> {
     ghost sink = { λ sink. record { written = None; faults = sink.faults } };
 
     fn write(&mut self, bytes: &[u8]) -> Result<(), Trouble> {
-        if self.write_all(bytes) {
-            return Ok(());
+        match self.write_all(bytes) {
+            Ok(()) => Ok(()),
+            Err(error) => {
+                self.failure = Some(error);
+                self.faults = self.faults.saturating_add(1);
+                Err(Trouble::Failed)
+            }
         }
-        self.faults = self.faults.saturating_add(1);
-        Err(Trouble::Failed)
     }
 }

@@ -3,6 +3,7 @@ use gap_files::{
     Trouble,
 };
 use std::fs;
+use std::os::unix::fs::symlink;
 use std::test::Fail;
 
 /// What is answered to a read; what is known of the files after it is of no use to a test.
@@ -221,4 +222,38 @@ fn appends_to_a_file_of_the_system(rt: HostRuntime) -> Result<(), Fail> {
     assert!(rt; are(&buf[..7], b"portgap".as_slice()));
     fs::remove_file(&rt, "gap_files_append")?;
     Ok(())
+}
+
+#[test]
+fn a_file_that_was_read_is_not_started(rt: HostRuntime) -> Result<(), Fail> {
+    fs::write(&rt, "gap_files_read", "old")?;
+    fs::hard_link(&rt, "gap_files_read", "gap_files_hard")?;
+    symlink(&rt, "gap_files_read", "gap_files_soft")?;
+    let mut files = RealFiles::new(&rt, rt.alloc());
+    let mut buf = [0u8; 8];
+    assert!(rt; gives(read(&mut files, "gap_files_read", 0, &mut buf), 3));
+    assert!(rt; files.failure().is_none());
+    for name in [
+        "gap_files_read",
+        "./gap_files_read",
+        "gap_files_hard",
+        "gap_files_soft",
+    ] {
+        assert!(rt; has_failed(start(&mut files, name)), "{name}");
+    }
+    assert!(rt; files.failure().is_some());
+    assert!(rt; gives(read(&mut files, "gap_files_hard", 0, &mut buf), 3));
+    assert!(rt; are(&buf[..3], b"old".as_slice()));
+    for name in ["gap_files_read", "gap_files_hard", "gap_files_soft"] {
+        fs::remove_file(&rt, name)?;
+    }
+    Ok(())
+}
+
+#[test]
+fn a_directory_is_no_file(rt: HostRuntime) {
+    let mut files = RealFiles::new(&rt, rt.alloc());
+    let mut buf = [0u8; 8];
+    assert!(rt; has_failed_to_read(read(&mut files, ".", 0, &mut buf)));
+    assert!(rt; has_failed(start(&mut files, ".")));
 }

@@ -1,7 +1,11 @@
-//! The program: hands its words, the files and the standard output of the system to `gap_top::run`.
+//! The program: hands its words, the files and the standard output of the system to `gap_top::run`, and says on standard
+//! error what a status that isn't 0 means.
 #![tactic(auto)]
 
+mod messages;
+
 use gap_files::{RealFiles, RealSink};
+use messages::explain;
 use std::alloc::Global;
 use std::env;
 use std::io::{self, ErrorKind};
@@ -27,36 +31,27 @@ fn refusal_of(error: &io::Error) -> u8 {
     }
 }
 
-/// What a status without a line of its own means, for standard error; None where a line or a report says it.
-fn meaning(status: u8) -> Option<&'static str> {
-    match status {
-        1 => Some("portgap: memory was refused"),
-        3 => Some("portgap: PORT, JOB or CERT couldn't be read"),
-        4 => Some("portgap: CERT, NEW or standard output couldn't be written"),
-        10 => Some("portgap: the words aren't UTF-8"),
-        _ => None,
+/// The words of this run, or the status where they can't be taken in.
+fn words_in(rt: &HostRuntime) -> Result<Vec<String>, u8> {
+    match env::args(rt) {
+        Ok(args) => words_of(rt.alloc(), args).ok_or(1),
+        Err(error) => Err(refusal_of(&error)),
     }
-}
-
-/// Runs the program over the real files and standard output, and answers the exit status.
-fn status_of(rt: &HostRuntime) -> u8 {
-    let alloc = rt.alloc();
-    let args = match env::args(rt) {
-        Ok(args) => args,
-        Err(error) => return refusal_of(&error),
-    };
-    let Some(words) = words_of(alloc, args) else {
-        return 1;
-    };
-    let mut files = RealFiles::new(rt, alloc);
-    let mut out = RealSink::new(rt);
-    gap_top::run(alloc, &words, &mut files, &mut out)
 }
 
 fn main(rt: HostRuntime) -> ExitCode {
-    let status = status_of(&rt);
-    if let Some(text) = meaning(status) {
-        let _ = rt.eprintln(text);
-    }
+    let alloc = rt.alloc();
+    let mut files = RealFiles::new(&rt, alloc);
+    let mut out = RealSink::new(&rt);
+    let words = words_in(&rt);
+    let status = match &words {
+        Ok(words) => gap_top::run(alloc, words, &mut files, &mut out),
+        Err(status) => *status,
+    };
+    let asked = match &words {
+        Ok(words) => words.as_slice(),
+        Err(_) => &[],
+    };
+    let _ = explain(&rt, status, asked, files.failure(), out.failure());
     ExitCode::from(status)
 }
