@@ -8,13 +8,14 @@ use Rattle.gap_words.specs.Refusals.{refusal_status}
 use Rattle.gap_words.specs.declared.refusal.Refusal.{Refusal}
 use Rattle.gap_words.specs.declared.refusal.Refusal.TheVariants.{Words, Port, Job, HeldRange, Certificate, Differs}
 use Rattle.gap_rule.specs.Names.{AreTold, AreHeld, RoseIn, SameOutside, held, told_bytes}
+use Rattle.gap_rule.specs.Certificates.{WasAccepted}
 use Rattle.gap_rule.specs.Rules.{Rules}
 use Rattle.gap_rule.specs.Steps.{IsLike, IsRuling, IsRuledForm, MayDo, MayRefuse, FitsForm, CanBeDone}
 use Rattle.gap_rule.specs.declared.stop.Halt.{Halt}
 use Rattle.gap_rule.specs.declared.stop.Halt.TheVariants as halt
 use Rattle.gap_rule.specs.declared.task.Task.{Task}
 use Rattle.gap_rule.specs.declared.task.Task.TheVariants.{Quick, Solve, Demo, Check, Verify, Upgrade}
-use Rattle.gap_top.specs.Answers.{Answers, Comes, FailedIn}
+use Rattle.gap_top.specs.Answers.{Answers, Stays, Comes, FailedIn}
 use Rattle.gap_top.specs.Statuses.{status_number, IsOneOf, IsStatusOf, Allows}
 use Rattle.gap_top.specs.Steps.{Refuses, EndsBy}
 use Rattle.gap_top.specs.Printing.{WriteCause}
@@ -153,7 +154,7 @@ may_refuse (upgrade cert new) (Certificate fault) may = inr (inr (inr (inr (inl 
 may_refuse (upgrade cert new) (Differs d) may = absurd may
 
 -- the status of a refusal is neither 3 nor 4
-not_three : (why : Refusal) → refusal_status why ≡ 3 → ⊥
+pub not_three : (why : Refusal) → refusal_status why ≡ 3 → ⊥
 not_three Words e = omega arith
 not_three (Port fault) e = omega arith
 not_three (Job fault) e = omega arith
@@ -161,7 +162,7 @@ not_three HeldRange e = omega arith
 not_three (Certificate fault) e = omega arith
 not_three (Differs d) e = omega arith
 
-not_four : (why : Refusal) → refusal_status why ≡ 4 → ⊥
+pub not_four : (why : Refusal) → refusal_status why ≡ 4 → ⊥
 not_four Words e = omega arith
 not_four (Port fault) e = omega arith
 not_four (Job fault) e = omega arith
@@ -194,15 +195,6 @@ held_told (name ∷ names) f (some, rest) = (held_one (f.content name) some, hel
     held_one None some = absurd (cc)
     held_one (Some content) some = (content, (refl, refl))
 
--- what a run leaves of the files and the sink
-record IsKept (asked : FormValue) (f : FilesNow) (s : SinkNow) (g : FilesNow) (t : SinkNow) : Type 0 where
-  contents : SameOutside (writes asked) f.content g.content
-  others : SameOutside (reads asked) f.read_faults g.read_faults
-  later : NoneFell f.read_faults g.read_faults
-  writes_others : SameOutside (writes asked) f.write_faults g.write_faults
-  writes_later : NoneFell f.write_faults g.write_faults
-  sink_later : s.faults ≤ t.faults
-
 same_le : (a b : ℕ) → b ≡ a → a ≤ b
 same_le a b e = omega arith
 
@@ -213,7 +205,7 @@ same_le_on : (a b c : ℕ) → b ≡ a → b ≤ c → a ≤ c
 same_le_on a b c e h = omega arith
 
 -- a ruling alone leaves this
-kept_calm : (asked : FormValue) (f : FilesNow) (s : SinkNow) (g : FilesNow) (t : SinkNow) (r : Result Task Halt) → IsRuledForm asked f g r → s.faults ≤ t.faults → IsKept asked f s g t
+kept_calm : (asked : FormValue) (f : FilesNow) (s : SinkNow) (g : FilesNow) (t : SinkNow) (r : Result Task Halt) → IsRuledForm asked f g r → s.faults ≤ t.faults → Stays asked f s g t
 kept_calm asked f s g t r ruled later = record {
   contents = λ other none. ruled.contents other;
   others = ruled.others;
@@ -233,7 +225,7 @@ record IsLeft (asked : FormValue) (m : FilesNow) (s : SinkNow) (g : FilesNow) (t
   cause : IfErr r (WriteCause (Rose s.faults t.faults ⊎ FailedIn (writes asked) m g))
 
 -- a ruling and a task leave this
-kept_done : (asked : FormValue) (f m : FilesNow) (s : SinkNow) (g : FilesNow) (t : SinkNow) (task : Task) (r : Result (Unit {0}) Stop) → IsRuledForm asked f m (Ok task) → IsLeft asked m s g t r → IsKept asked f s g t
+kept_done : (asked : FormValue) (f m : FilesNow) (s : SinkNow) (g : FilesNow) (t : SinkNow) (task : Task) (r : Result (Unit {0}) Stop) → IsRuledForm asked f m (Ok task) → IsLeft asked m s g t r → Stays asked f s g t
 kept_done asked f m s g t task r ruled left = record {
   contents = λ other none. left.contents other none ∙ ruled.contents other;
   others = λ other none. left.reads other ∙ ruled.others other none;
@@ -244,21 +236,18 @@ kept_done asked f m s g t task r ruled left = record {
 }
 
 -- what is ruled, and what came of it
-comes_of : (asked : FormValue) (f : FilesNow) (s : SinkNow) (g : FilesNow) (t : SinkNow) (r : Result Task Refusal) (n : ℕ) → ((holds : List ℕ → List ℕ) → AreHeld (reads asked) holds f → IsRuling (Rules asked holds) r) → IsStatusOf asked n → Allows r n → (n ≡ 3 → ⊥) → (n ≡ 4 → Rose s.faults t.faults ⊎ FailedIn (writes asked) f g) → Comes r (source_in asked) (cert_in asked) f s g t n → IsKept asked f s g t → Answers asked f s g t n
+comes_of : (asked : FormValue) (f : FilesNow) (s : SinkNow) (g : FilesNow) (t : SinkNow) (r : Result Task Refusal) (n : ℕ) → ((holds : List ℕ → List ℕ) → AreHeld (reads asked) holds f → IsRuling (Rules asked holds) r) → IsStatusOf asked n → Allows r n → (n ≡ 3 → ⊥) → (n ≡ 4 → Rose s.faults t.faults ⊎ FailedIn (writes asked) f g) → Comes r (source_in asked) (cert_in asked) f s g t n → Stays asked f s g t → Answers asked f s g t n
 comes_of asked f s g t r n ruling possible allowed unread rose comes kept = record {
   possible = possible;
   ruled = λ told other rules. allows_like r other n ((ruling (held f) (held_told (reads asked) f told)).only other rules) allowed;
   settled = λ told. inr (record { ruling = r; rules = (ruling (held f) (held_told (reads asked) f told)).holds; comes = comes });
-  read_fault = λ three. absurd (unread three);
-  looked = λ told three. absurd (unread three);
-  write_fault = rose;
-  silent = λ three. absurd (unread three);
-  contents = kept.contents;
-  others = kept.others;
-  later = kept.later;
-  writes_others = kept.writes_others;
-  writes_later = kept.writes_later;
-  sink_later = kept.sink_later;
+  causes = record {
+    read_fault = λ three. absurd (unread three);
+    looked = λ told three. absurd (unread three);
+    silent = λ three. absurd (unread three);
+    write_fault = rose;
+  };
+  stays = kept;
 }
 
 -- why a sweep stopped
@@ -343,8 +332,9 @@ left_by (demo q) (Verify v) m s g t r plain may does = absurd may
 left_by (upgrade cert new) task m s g t r plain may does = absurd plain
 
 -- a task was done from the files m on
-performed : (asked : FormValue) (f m : FilesNow) (s : SinkNow) (g : FilesNow) (t : SinkNow) (task : Task) (r : Result (Unit {0}) Stop) → IsRuledForm asked f m (Ok task) → Does task (source_in asked) (cert_in asked) m s g t r → Performs task (source_in asked) (cert_in asked) f s g t (status_number r)
-performed asked f m s g t task r ruled does = record {
+performed : (asked : FormValue) (f m : FilesNow) (s : SinkNow) (g : FilesNow) (t : SinkNow) (task : Task) (r : Result (Unit {0}) Stop) → IsRuledForm asked f m (Ok task) → CanBeDone task → Does task (source_in asked) (cert_in asked) m s g t r → Performs task (source_in asked) (cert_in asked) f s g t (status_number r)
+performed asked f m s g t task r ruled can does = record {
+  ready = can;
   m = m;
   contents = ruled.contents;
   write_faults = ruled.writes;
@@ -365,13 +355,13 @@ rose_from names f m g s t same (inr failed) = inr (failed_from names f m g same 
 done_by : (asked : FormValue) (f m : FilesNow) (s : SinkNow) (g : FilesNow) (t : SinkNow) (task : Task) (r : Result (Unit {0}) Stop) → IsRuledForm asked f m (Ok task) → MayDo asked task → Does task (source_in asked) (cert_in asked) m s g t r → IsLeft asked m s g t r → Answers asked f s g t (status_number r)
 done_by asked f m s g t task (Ok done) ruled may does left =
     comes_of asked f s g t (Ok task) 0 ruled.tells (may_zero asked task may) (inl refl) (λ e. omega arith) (λ e. absurd (omega arith))
-    (performed asked f m s g t task (Ok done) ruled does) (kept_done asked f m s g t task (Ok done) ruled left)
+    (performed asked f m s g t task (Ok done) ruled (can_be_done asked task may) does) (kept_done asked f m s g t task (Ok done) ruled left)
 done_by asked f m s g t task (Err WriteFault) ruled may does left =
     comes_of asked f s g t (Ok task) 4 ruled.tells (may_four asked task may) (inr (inr (inr (inl refl)))) (λ e. omega arith) (λ e. rose_from (writes asked) f m g s t ruled.writes left.cause)
-    (performed asked f m s g t task (Err WriteFault) ruled does) (kept_done asked f m s g t task (Err WriteFault) ruled left)
+    (performed asked f m s g t task (Err WriteFault) ruled (can_be_done asked task may) does) (kept_done asked f m s g t task (Err WriteFault) ruled left)
 done_by asked f m s g t task (Err OutOfMemory) ruled may does left =
     comes_of asked f s g t (Ok task) 1 ruled.tells (may_one asked) (inr (inl refl)) (λ e. omega arith) (λ e. absurd (omega arith))
-    (performed asked f m s g t task (Err OutOfMemory) ruled does) (kept_done asked f m s g t task (Err OutOfMemory) ruled left)
+    (performed asked f m s g t task (Err OutOfMemory) ruled (can_be_done asked task may) does) (kept_done asked f m s g t task (Err OutOfMemory) ruled left)
 done_by asked f m s g t task (Err ReadFault) ruled may does left = absurd left.cause
 done_by asked f m s g t task (Err (Refused why)) ruled may does left = absurd left.cause
 
@@ -388,7 +378,7 @@ rose_on : (a b c : ℕ) → a ≤ b → Rose b c → Rose a c
 rose_on a b c h rose = omega arith
 
 -- a ruling and an upgrade leave this
-kept_renewed : (cert new : List ℕ) (f m : FilesNow) (s : SinkNow) (g : FilesNow) (t : SinkNow) (task : Task) → IsRuledForm (upgrade cert new) f m (Ok task) → KeepsFiles cert new m g → s.faults ≤ t.faults → IsKept (upgrade cert new) f s g t
+kept_renewed : (cert new : List ℕ) (f m : FilesNow) (s : SinkNow) (g : FilesNow) (t : SinkNow) (task : Task) → IsRuledForm (upgrade cert new) f m (Ok task) → KeepsFiles cert new m g → s.faults ≤ t.faults → Stays (upgrade cert new) f s g t
 kept_renewed cert new f m s g t task ruled keeps later = record {
   contents = λ other none. keeps.contents other none.0 ∙ ruled.contents other;
   others = λ other none. keeps.read_others other none.0 ∙ ruled.others other none;
@@ -399,8 +389,8 @@ kept_renewed cert new f m s g t task ruled keeps later = record {
 }
 
 performed_anew : (cert new : List ℕ) (f m : FilesNow) (s : SinkNow) (g : FilesNow) (t : SinkNow) (v : VerdictValue) (r : Result (Unit {0}) Stop) (n : ℕ) → n ≡ status_number r
-    → IsRuledForm (upgrade cert new) f m (Ok (Upgrade v)) → Renews cert new m s g t r → Performs (Upgrade v) cert new f s g t n
-performed_anew cert new f m s g t v r n is ruled renews = record { m = m; contents = ruled.contents; write_faults = ruled.writes; result = r; does = renews; status_is = is }
+    → IsRuledForm (upgrade cert new) f m (Ok (Upgrade v)) → WasAccepted v → Renews cert new m s g t r → Performs (Upgrade v) cert new f s g t n
+performed_anew cert new f m s g t v r n is ruled was renews = record { ready = was; m = m; contents = ruled.contents; write_faults = ruled.writes; result = r; does = renews; status_is = is }
 
 -- where the content is told it isn't refused any more
 never_refused : (cert new : List ℕ) (f m : FilesNow) (s : SinkNow) (g : FilesNow) (h : SinkNow) (v : VerdictValue) (fault : CertFault) → new ≢ cert → IsRuledForm (upgrade cert new) f m (Ok (Upgrade v))
@@ -412,17 +402,17 @@ never_refused cert new f m s g h v fault apart ruled runs told =
 
 -- its status is neither 3 nor 7
 answers_anew : (cert new : List ℕ) (f m : FilesNow) (s : SinkNow) (g : FilesNow) (t : SinkNow) (v : VerdictValue) (r : Result (Unit {0}) Stop) (n : ℕ) → n ≡ status_number r
-    → IsRuledForm (upgrade cert new) f m (Ok (Upgrade v)) → Renews cert new m s g t r → KeepsFiles cert new m g → s.faults ≤ t.faults
+    → IsRuledForm (upgrade cert new) f m (Ok (Upgrade v)) → WasAccepted v → Renews cert new m s g t r → KeepsFiles cert new m g → s.faults ≤ t.faults
     → IsStatusOf (upgrade cert new) n → Allows (Ok (Upgrade v)) n → (n ≡ 3 → ⊥) → (n ≡ 4 → Rose s.faults t.faults ⊎ FailedIn (new ∷ []) m g) → Answers (upgrade cert new) f s g t n
-answers_anew cert new f m s g t v r n is ruled renews keeps later possible allowed unread cause =
+answers_anew cert new f m s g t v r n is ruled was renews keeps later possible allowed unread cause =
     comes_of (upgrade cert new) f s g t (Ok (Upgrade v)) n ruled.tells possible allowed unread (λ four. rose_from (new ∷ []) f m g s t ruled.writes (cause four))
-    (performed_anew cert new f m s g t v r n is ruled renews) (kept_renewed cert new f m s g t (Upgrade v) ruled keeps later)
+    (performed_anew cert new f m s g t v r n is ruled was renews) (kept_renewed cert new f m s g t (Upgrade v) ruled keeps later)
 
 -- the second reading failed
 answers_unread_anew : (cert new : List ℕ) (f m : FilesNow) (s : SinkNow) (g : FilesNow) (t : SinkNow) (v : VerdictValue) (r : Result (Unit {0}) Stop) → 3 ≡ status_number r
-    → IsRuledForm (upgrade cert new) f m (Ok (Upgrade v)) → Renews cert new m s g t r → KeepsFiles cert new m g → s.faults ≤ t.faults
+    → IsRuledForm (upgrade cert new) f m (Ok (Upgrade v)) → WasAccepted v → Renews cert new m s g t r → KeepsFiles cert new m g → s.faults ≤ t.faults
     → Rose (m.read_faults cert) (g.read_faults cert) → t ≡ s → Answers (upgrade cert new) f s g t 3
-answers_unread_anew cert new f m s g t v r is ruled renews keeps later rose silent =
+answers_unread_anew cert new f m s g t v r is ruled was renews keeps later rose silent =
     let kept = kept_renewed cert new f m s g t (Upgrade v) ruled keeps later in
     let risen = rose_on _ _ _ (ruled.later cert) rose in
     record {
@@ -431,18 +421,15 @@ answers_unread_anew cert new f m s g t v r is ruled renews keeps later rose sile
       settled = λ told. inr (record {
         ruling = Ok (Upgrade v);
         rules = (ruled.tells (held f) (held_told (cert ∷ []) f told)).holds;
-        comes = performed_anew cert new f m s g t v r 3 is ruled renews;
+        comes = performed_anew cert new f m s g t v r 3 is ruled was renews;
       });
-      read_fault = λ three. inl risen;
-      looked = λ told three. inl risen;
-      write_fault = λ four. absurd (omega arith);
-      silent = λ three. silent;
-      contents = kept.contents;
-      others = kept.others;
-      later = kept.later;
-      writes_others = kept.writes_others;
-      writes_later = kept.writes_later;
-      sink_later = kept.sink_later;
+      causes = record {
+        read_fault = λ three. inl risen;
+        looked = λ told three. inl risen;
+        silent = λ three. silent;
+        write_fault = λ four. absurd (omega arith);
+      };
+      stays = kept;
     }
 
 -- the second reading was refused, which no told content is
@@ -454,16 +441,13 @@ answers_refused_anew cert new f m s g t task ruled keeps later never =
       possible = inr (inr (inr (inr (inl refl))));
       ruled = λ told other rules. absurd (never told);
       settled = λ told. absurd (never told);
-      read_fault = λ three. absurd (omega arith);
-      looked = λ told three. absurd (never told);
-      write_fault = λ four. absurd (omega arith);
-      silent = λ three. absurd (omega arith);
-      contents = kept.contents;
-      others = kept.others;
-      later = kept.later;
-      writes_others = kept.writes_others;
-      writes_later = kept.writes_later;
-      sink_later = kept.sink_later;
+      causes = record {
+        read_fault = λ three. absurd (omega arith);
+        looked = λ told three. absurd (never told);
+        silent = λ three. absurd (omega arith);
+        write_fault = λ four. absurd (omega arith);
+      };
+      stays = kept;
     }
 
 same_status : (asked : FormValue) (f : FilesNow) (s : SinkNow) (g : FilesNow) (t : SinkNow) (n k : ℕ) → n ≡ k → Answers asked f s g t n → Answers asked f s g t k
@@ -476,26 +460,26 @@ named_cause : (new : List ℕ) (m g : FilesNow) (s h t : SinkNow) → t ≡ h �
 named_cause new m g s h t same (inl rose) = inl (subst (λ (x : SinkNow). Rose s.faults x.faults) (sym same) rose)
 named_cause new m g s h t same (inr rose) = inr (inl rose)
 
-renewed_by : (cert new : List ℕ) (f m : FilesNow) (s : SinkNow) (g : FilesNow) (t : SinkNow) (v : VerdictValue) (r : Result (Unit {0}) Stop) → new ≢ cert → IsRuledForm (upgrade cert new) f m (Ok (Upgrade v)) → Renews cert new m s g t r
+renewed_by : (cert new : List ℕ) (f m : FilesNow) (s : SinkNow) (g : FilesNow) (t : SinkNow) (v : VerdictValue) (r : Result (Unit {0}) Stop) → new ≢ cert → IsRuledForm (upgrade cert new) f m (Ok (Upgrade v)) → WasAccepted v → Renews cert new m s g t r
     → (h : SinkNow) (renewed : Result (Unit {0}) UpgradeStop) → Upgrades cert new m s g h renewed → EndsRenewal renewed h t r → Answers (upgrade cert new) f s g t (status_number r)
-renewed_by cert new f m s g t v r apart ruled renews h (Ok done) runs ended =
+renewed_by cert new f m s g t v r apart ruled was renews h (Ok done) runs ended =
     let is : 0 ≡ status_number r = sym (ap status_number ended.0) in
     same_status (upgrade cert new) f s g t 0 (status_number r) is
-    (answers_anew cert new f m s g t v r 0 is ruled renews runs.keeps (later_same s h t ended.1 runs.later) (inl refl) (inl refl) (λ e. omega arith) (λ e. absurd (omega arith)))
-renewed_by cert new f m s g t v r apart ruled renews h (Err renewal.WriteFault) runs ended =
+    (answers_anew cert new f m s g t v r 0 is ruled was renews runs.keeps (later_same s h t ended.1 runs.later) (inl refl) (inl refl) (λ e. omega arith) (λ e. absurd (omega arith)))
+renewed_by cert new f m s g t v r apart ruled was renews h (Err renewal.WriteFault) runs ended =
     let is : 4 ≡ status_number r = sym (ap status_number ended.0) in
     same_status (upgrade cert new) f s g t 4 (status_number r) is
-    (answers_anew cert new f m s g t v r 4 is ruled renews runs.keeps (later_same s h t ended.1 runs.later) (inr (inr (inr (inl refl)))) (inr (inr (inr (inl refl)))) (λ e. omega arith)
+    (answers_anew cert new f m s g t v r 4 is ruled was renews runs.keeps (later_same s h t ended.1 runs.later) (inr (inr (inr (inl refl)))) (inr (inr (inr (inl refl)))) (λ e. omega arith)
     (λ e. named_cause new m g s h t ended.1 runs.cause))
-renewed_by cert new f m s g t v r apart ruled renews h (Err renewal.OutOfMemory) runs ended =
+renewed_by cert new f m s g t v r apart ruled was renews h (Err renewal.OutOfMemory) runs ended =
     let is : 1 ≡ status_number r = sym (ap status_number ended.0) in
     same_status (upgrade cert new) f s g t 1 (status_number r) is
-    (answers_anew cert new f m s g t v r 1 is ruled renews runs.keeps (later_same s h t ended.1 runs.later) (inr (inl refl)) (inr (inl refl)) (λ e. omega arith) (λ e. absurd (omega arith)))
-renewed_by cert new f m s g t v r apart ruled renews h (Err renewal.ReadFault) runs ended =
+    (answers_anew cert new f m s g t v r 1 is ruled was renews runs.keeps (later_same s h t ended.1 runs.later) (inr (inl refl)) (inr (inl refl)) (λ e. omega arith) (λ e. absurd (omega arith)))
+renewed_by cert new f m s g t v r apart ruled was renews h (Err renewal.ReadFault) runs ended =
     let is : 3 ≡ status_number r = sym (ap status_number ended.0) in
     same_status (upgrade cert new) f s g t 3 (status_number r) is
-    (answers_unread_anew cert new f m s g t v r is ruled renews runs.keeps (later_same s h t ended.1 runs.later) runs.cause.0 (ended.1 ∙ runs.cause.1))
-renewed_by cert new f m s g t v r apart ruled renews h (Err (renewal.Refused fault)) runs ended =
+    (answers_unread_anew cert new f m s g t v r is ruled was renews runs.keeps (later_same s h t ended.1 runs.later) runs.cause.0 (ended.1 ∙ runs.cause.1))
+renewed_by cert new f m s g t v r apart ruled was renews h (Err (renewal.Refused fault)) runs ended =
     let later = le_on s.faults h.faults t.faults runs.later ended.2.later in
     elim ended.2.stops [
       | inl stands ↦
@@ -505,7 +489,7 @@ renewed_by cert new f m s g t v r apart ruled renews h (Err (renewal.Refused fau
       | inr none ↦
           let is : 1 ≡ status_number r = sym (ap status_number (ended.1 ∙ ap (λ (x : Stop). Err x) none)) in
           same_status (upgrade cert new) f s g t 1 (status_number r) is
-          (answers_anew cert new f m s g t v r 1 is ruled renews runs.keeps later (inr (inl refl)) (inr (inl refl)) (λ e. omega arith) (λ e. absurd (omega arith)))
+          (answers_anew cert new f m s g t v r 1 is ruled was renews runs.keeps later (inr (inl refl)) (inr (inl refl)) (λ e. omega arith) (λ e. absurd (omega arith)))
     ]
 
 renewed_task : (cert new : List ℕ) (f m : FilesNow) (s : SinkNow) (g : FilesNow) (t : SinkNow) (task : Task) (r : Result (Unit {0}) Stop) → new ≢ cert → IsRuledForm (upgrade cert new) f m (Ok task) → MayDo (upgrade cert new) task
@@ -515,7 +499,7 @@ renewed_task cert new f m s g t (Solve work) r apart ruled may does = absurd may
 renewed_task cert new f m s g t (Demo work) r apart ruled may does = absurd may
 renewed_task cert new f m s g t (Check v) r apart ruled may does = absurd may
 renewed_task cert new f m s g t (Verify v) r apart ruled may does = absurd may
-renewed_task cert new f m s g t (Upgrade v) r apart ruled may does = renewed_by cert new f m s g t v r apart ruled does does.h does.renewed does.runs does.ended
+renewed_task cert new f m s g t (Upgrade v) r apart ruled may does = renewed_by cert new f m s g t v r apart ruled may does does.h does.renewed does.runs does.ended
 
 -- ---- any task
 
@@ -556,16 +540,20 @@ answers_unread asked f s g ruled = record {
   possible = may_three asked f g ruled.cause;
   ruled = λ told r rules. allows_three r;
   settled = λ told. inl (record { status_is = inr (inl refl); unwritten = refl; contents = ruled.contents });
-  read_fault = λ three. ruled.cause;
-  looked = λ told three. ruled.looks_cause (held f) (held_told (reads asked) f told);
-  write_fault = λ four. absurd (omega arith);
-  silent = λ three. refl;
-  contents = λ other none. ruled.contents other;
-  others = ruled.others;
-  later = ruled.later;
-  writes_others = λ other none. ruled.writes other;
-  writes_later = λ other. same_le _ _ (ruled.writes other);
-  sink_later = omega arith;
+  causes = record {
+    read_fault = λ three. ruled.cause;
+    looked = λ told three. ruled.looks_cause (held f) (held_told (reads asked) f told);
+    silent = λ three. refl;
+    write_fault = λ four. absurd (omega arith);
+  };
+  stays = record {
+    contents = λ other none. ruled.contents other;
+    others = ruled.others;
+    later = ruled.later;
+    writes_others = λ other none. ruled.writes other;
+    writes_later = λ other. same_le _ _ (ruled.writes other);
+    sink_later = omega arith;
+  };
 }
 
 -- memory was refused while it was ruled
@@ -574,16 +562,20 @@ answers_no_memory asked f s g ruled = record {
   possible = may_one asked;
   ruled = λ told r rules. allows_one r;
   settled = λ told. inl (record { status_is = inl refl; unwritten = refl; contents = ruled.contents });
-  read_fault = λ three. absurd (omega arith);
-  looked = λ told three. absurd (omega arith);
-  write_fault = λ four. absurd (omega arith);
-  silent = λ three. absurd (omega arith);
-  contents = λ other none. ruled.contents other;
-  others = ruled.others;
-  later = ruled.later;
-  writes_others = λ other none. ruled.writes other;
-  writes_later = λ other. same_le _ _ (ruled.writes other);
-  sink_later = omega arith;
+  causes = record {
+    read_fault = λ three. absurd (omega arith);
+    looked = λ told three. absurd (omega arith);
+    silent = λ three. absurd (omega arith);
+    write_fault = λ four. absurd (omega arith);
+  };
+  stays = record {
+    contents = λ other none. ruled.contents other;
+    others = ruled.others;
+    later = ruled.later;
+    writes_others = λ other none. ruled.writes other;
+    writes_later = λ other. same_le _ _ (ruled.writes other);
+    sink_later = omega arith;
+  };
 }
 
 unwritten : (asked : FormValue) (f : FilesNow) (s : SinkNow) (g : FilesNow) (t : SinkNow) (stop ended : Stop) → ended ≡ stop → t ≡ s → Answers asked f s g s (status_number (Err stop)) → Answers asked f s g t (status_number (Err ended))

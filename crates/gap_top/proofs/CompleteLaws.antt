@@ -31,9 +31,9 @@ neither P Q no_p no_q (inr q) = no_q q
 -- with told contents and counts that didn't rise a task is done, or memory was wanted
 pub done_or_memory : (asked : FormValue) (f : FilesNow) (s : SinkNow) (g : FilesNow) (t : SinkNow) (status : ℕ) (task : Task) → Answers asked f s g t status → AreTold (reads asked) f → Rules asked (held f) (Ok task) → ¬ (RoseIn (reads asked) f g) → ¬ (Rose s.faults t.faults) → ¬ (FailedIn (writes asked) f g) → (status ≡ 0) ⊎ (status ≡ 1)
 done_or_memory asked f s g t status task answers told is calm still whole =
-    decided task status (answers.ruled told _ is) (λ three. calm (answers.read_fault three)) (λ four. neither _ _ still whole (answers.write_fault four))
+    decided task status (answers.ruled told _ is) (λ three. calm (answers.causes.read_fault three)) (λ four. neither _ _ still whole (answers.causes.write_fault four))
 
 -- and a refusal has its own status, or memory was wanted
 pub refused_or_memory : (asked : FormValue) (f : FilesNow) (s : SinkNow) (g : FilesNow) (t : SinkNow) (status : ℕ) (why : Refusal) → Answers asked f s g t status → AreTold (reads asked) f → Rules asked (held f) (Err why) → ¬ (RoseIn (reads asked) f g) → (status ≡ refusal_status why) ⊎ (status ≡ 1)
 refused_or_memory asked f s g t status why answers told is calm =
-    refused why status (answers.ruled told _ is) (λ three. calm (answers.read_fault three))
+    refused why status (answers.ruled told _ is) (λ three. calm (answers.causes.read_fault three))

@@ -4,3 +4,11 @@ pub mod CompleteLaws
 pub mod RightLaws
 pub mod TellLaws
 pub mod RenewLaws
+pub mod ReportLaws
+pub mod SaidLaws
+pub mod PlainLaws
+pub mod GoodLaws
+pub mod ShortLaws
+pub mod CertifiedLaws
+pub mod HeadlineLaws
+pub mod VerdictLaws

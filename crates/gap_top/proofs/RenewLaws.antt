@@ -40,7 +40,7 @@ record IsTold (name : List ℕ) (f m : FilesNow) : Type 0 where
 is_told : (name : List ℕ) (f m : FilesNow) → IsSome (f.content name) → SameEverywhere f.content m.content → IsTold name f m
 is_told name f m some same = let at = told_at (f.content name) some in record { content = at.0; before = at.1.0; now = same name ∙ at.1.0; bytes_are = at.1.1 }
 
-not_zero : (why : Refusal) → 0 ≡ refusal_status why → ⊥
+pub not_zero : (why : Refusal) → 0 ≡ refusal_status why → ⊥
 not_zero Words e = omega arith
 not_zero (Port fault) e = omega arith
 not_zero (Job fault) e = omega arith
@@ -97,7 +97,7 @@ whole_settled cert new f s g t v (Err why) apart some_cert some_new rules comes 
     never why (inl own) = not_zero why own.0
     never why (inr none) = omega (arith, none.0)
 
-unruled_zero : IsOneOf (1 ∷ 3 ∷ []) 0 → ⊥
+pub unruled_zero : IsOneOf (1 ∷ 3 ∷ []) 0 → ⊥
 unruled_zero (inl e) = omega (arith, e)
 unruled_zero (inr (inl e)) = omega (arith, e)
 unruled_zero (inr (inr none)) = none

@@ -41,25 +41,34 @@ pub record IsSettled (asked : FormValue) (holds : List ℕ → List ℕ) (f : Fi
   pub rules : Rules asked holds ruling
   pub comes : Comes ruling (source_in asked) (cert_in asked) f s g t status
 
--- words of this form were answered by a status; f and s are what the files and the sink tell before, g and t after
-pub record Answers (asked : FormValue) (f : FilesNow) (s : SinkNow) (g : FilesNow) (t : SinkNow) (status : ℕ) : Type 0 where
-  -- which status: one of the form's, and where the contents are told one that each ruling of them allows
-  pub possible : IsStatusOf asked status
-  pub ruled : AreTold (reads asked) f → (r : Result Task Refusal) → Rules asked (held f) r → Allows r status
-  -- what it came to, where the contents are told: a refusal writes its line, a task its report and its certificate
-  pub settled : AreTold (reads asked) f → IsUnruled f s g t status ⊎ IsSettled asked (held f) f s g t status
-  -- 3 and 4 only where a count rose: of a file that the command reads, and looks at before it is ruled; of the sink, or of a
-  -- file that the command writes
+-- 3 and 4 come only where a count rose: 3 where that of a file rose that the command reads, and that it looks at before it is
+-- ruled, and then nothing was written; 4 where that of the sink rose or that of a file that the command writes
+pub record HasCauses (asked : FormValue) (f : FilesNow) (s : SinkNow) (g : FilesNow) (t : SinkNow) (status : ℕ) : Type
+    0 where
   pub read_fault : status ≡ 3 → RoseIn (reads asked) f g
   pub looked : AreTold (reads asked) f → status ≡ 3 → RoseIn (looks asked (held f)) f g
-  pub write_fault : status ≡ 4 → Rose s.faults t.faults ⊎ FailedIn (writes asked) f g
-  -- with 3 nothing was written
   pub silent : status ≡ 3 → t ≡ s
-  -- what stays: all contents and all counts of write faults but those of the files that the command writes, and all counts
-  -- of read faults but of those that it reads; none falls
+  pub write_fault : status ≡ 4 → Rose s.faults t.faults ⊎ FailedIn (writes asked) f g
+
+-- what stays: all contents and all counts of write faults but those of the files that the command writes, and all counts of
+-- read faults but of those that it reads; none falls
+pub record Stays (asked : FormValue) (f : FilesNow) (s : SinkNow) (g : FilesNow) (t : SinkNow) : Type 0 where
   pub contents : SameOutside (writes asked) f.content g.content
   pub others : SameOutside (reads asked) f.read_faults g.read_faults
   pub later : NoneFell f.read_faults g.read_faults
   pub writes_others : SameOutside (writes asked) f.write_faults g.write_faults
   pub writes_later : NoneFell f.write_faults g.write_faults
   pub sink_later : s.faults ≤ t.faults
+
+-- words of this form were answered by a status; f and s are what the files and the sink tell before, g and t after:
+-- possible: the status is one of the form's;
+-- ruled: where the contents are told it is one that each ruling of them allows;
+-- settled: what it came to, where they are told: a refusal writes its line, a task its report and its certificate;
+-- causes: a fault comes only where a count rose;
+-- stays: nothing changes but what the command reads and writes
+pub record Answers (asked : FormValue) (f : FilesNow) (s : SinkNow) (g : FilesNow) (t : SinkNow) (status : ℕ) : Type 0 where
+  pub possible : IsStatusOf asked status
+  pub ruled : AreTold (reads asked) f → (r : Result Task Refusal) → Rules asked (held f) r → Allows r status
+  pub settled : AreTold (reads asked) f → IsUnruled f s g t status ⊎ IsSettled asked (held f) f s g t status
+  pub causes : HasCauses asked f s g t status
+  pub stays : Stays asked f s g t

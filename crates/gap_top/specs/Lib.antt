@@ -5,3 +5,8 @@ pub mod Steps
 pub mod Working
 pub mod Answers
 pub mod Renewing
+pub mod Reporting
+pub mod Saying
+pub mod Holding
+pub mod Quality
+pub mod Headline

@@ -11,7 +11,7 @@ use Rattle.gap_orlib.specs.Ports.{port}
 use Rattle.gap_rule.specs.Certificates.{IsOfFiles}
 use Rattle.gap_tell.specs.Telling.{verdict_report}
 use Rattle.gap_valid.specs.Verdicts.{VerdictValue}
-use Rattle.gap_top.specs.Printing.{Prints}
+use Rattle.gap_top.specs.Printing.{Prints, IfWritten, WritesAll}
 use Rattle.gap_top.specs.declared.stop.Stop.{Stop}
 
 -- a verdict was told, from the files f and the sink s to g and t: its report was written, or a front of it where that
@@ -38,3 +38,15 @@ pub record IsVerified (port_bytes job_bytes bytes : List ℕ) (v : VerdictValue)
   pub accepted : Accepted bytes v
   pub of : IsOfFiles market job v
   pub right : All (IsToldRight (instance_of market job)) v.sections
+
+-- all that is told of the bytes of a certificate that a run of `check` accepted, from the sink s to t
+pub record SaysChecked (bytes : List ℕ) (s t : SinkNow) : Type 0 where
+  pub verdict : VerdictValue
+  pub checked : IsChecked bytes verdict
+  pub written : IfWritten (WritesAll (verdict_report verdict)) s t
+
+-- and of those that a run of `verify` found to be of a port file and a job file
+pub record SaysVerified (port_bytes job_bytes bytes : List ℕ) (s t : SinkNow) : Type 0 where
+  pub verdict : VerdictValue
+  pub verified : IsVerified port_bytes job_bytes bytes verdict
+  pub written : IfWritten (WritesAll (verdict_report verdict)) s t

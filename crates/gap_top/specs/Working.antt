@@ -4,6 +4,7 @@ use Rattle.gap_files.specs.Outside.{FilesNow, SinkNow, SameEverywhere}
 use Rattle.gap_words.specs.Forms.{FormValue, faulty, quick, solve, check, verify, demo, upgrade}
 use Rattle.gap_words.specs.Names.{unnamed}
 use Rattle.gap_model.specs.declared.outcome.Told.{Told}
+use Rattle.gap_rule.specs.Steps.{CanBeDone}
 use Rattle.gap_rule.specs.declared.task.Task.{Task}
 use Rattle.gap_rule.specs.declared.task.Task.TheVariants.{Quick, Solve, Demo, Check, Verify, Upgrade}
 use Rattle.gap_rule.specs.declared.task.Work.{Work}
@@ -90,10 +91,11 @@ Does (Check v) source name f s g t result = Tells v f s g t result
 Does (Verify v) source name f s g t result = Tells v f s g t result
 Does (Upgrade v) source name f s g t result = Renews source name f s g t result
 
--- a task ended with a status: from the files m on, which have the contents and the counts of write faults that f has, since
--- between the two files were read alone, it was done
+-- a task ended with a status: it could be done, and it was, from the files m on, which have the contents and the counts of
+-- write faults that f has, since between the two files were read alone
 pub record Performs (task : Task) (source name : List ℕ) (f : FilesNow) (s : SinkNow) (g : FilesNow) (t : SinkNow)
     (status : ℕ) : Type 0 where
+  pub ready : CanBeDone task
   pub m : FilesNow
   pub contents : SameEverywhere f.content m.content
   pub write_faults : SameEverywhere f.write_faults m.write_faults

@@ -9,7 +9,7 @@ ghost use Rattle.gap_rule.specs.Tasks.{work_of};
 ghost use Rattle.gap_sweep.specs.Asked.{Done};
 ghost use Rattle.gap_sweep.specs.Runs.{HasDone};
 ghost use Rattle.gap_sweep.specs.declared.style.Style.{Style};
-ghost use Rattle.gap_top.specs.Working.{asked_for, told_of};
+ghost use Rattle.gap_top.specs.Working.{asked_for, cert_in, told_of};
 ghost use Rattle.gap_files.specs.Outside.{FilesNow, SinkNow, Rose};
 ghost use Rattle.gap_words.specs.Forms.{FormValue, check, verify, upgrade};
 ghost use Rattle.gap_words.specs.Names.{reads, writes};
@@ -19,7 +19,10 @@ ghost use Rattle.gap_rule.specs.Names.{AreTold, RoseIn, held};
 ghost use Rattle.gap_rule.specs.Rules.{Rules};
 ghost use Rattle.gap_rule.specs.declared.task.Task.{Task};
 ghost use Rattle.gap_top.specs.Answers.{Answers, FailedIn};
-ghost use Rattle.gap_top.specs.Telling.{IsChecked, IsVerified};
+ghost use Rattle.gap_top.specs.Telling.{IsChecked, IsVerified, SaysChecked, SaysVerified};
+ghost use Rattle.gap_top.specs.Headline.{Headline, Solves};
+ghost use Rattle.gap_top.specs.Statuses.{IsOneOf};
+ghost use Rattle.gap_trace.specs.Steps.{IsUnstarted};
 ghost use Rattle.gap_check.specs.Accepting.{Accepted};
 ghost use Rattle.gap_top.specs.Renewing.{LeavesFront};
 ghost use Rattle.gap_trace.specs.Marks.{stream};
@@ -46,6 +49,31 @@ pub fn answers_are_right()
     ensures { (style : Style) (market : MarketValue) (job : Job) (shift : ShiftValue) (done : List Done)
         → HasDone (asked_for style (work_of market job)) shift done
         → All (λ d. IsToldRight (instance_of market job) (told_of d)) done }
+{}
+
+/// The headline, from the contract of `run`, for `quick`, `solve` and `demo`, where the files that are read are told. With the
+/// status 0 `Headline` holds: the report of the weights' outcomes was written, a line for each weight; what is said of each is
+/// right for the market and the job of the files, a portfolio meeting every limit and having exactly its objective, none that
+/// meets the limits being below the bound, none being said only where there is none, and open only after exactly the budget;
+/// and the certificate that shows it is in its file. Where memory was wanted or a fault came it holds of the weights that
+/// were done, with a front of the report and of the certificate, or nothing was begun.
+pub fn headline_holds()
+    ensures done { (command : FormValue) (f : FilesNow) (s : SinkNow) (g : FilesNow) (t : SinkNow) → Solves command
+        → AreTold (reads command) f → Answers command f s g t 0 → Headline command f s g t 0 }
+    ensures stopped { (command : FormValue) (f : FilesNow) (s : SinkNow) (g : FilesNow) (t : SinkNow) (status : ℕ)
+        → Solves command → AreTold (reads command) f → IsOneOf (1 ∷ 3 ∷ 4 ∷ []) status → Answers command f s g t status
+        → IsUnstarted (cert_in command) f s g t ⊎ Headline command f s g t status }
+{}
+
+/// What `check` and `verify` have said where they ended with 0, from the contract of `run`: all lines of a verdict were
+/// written, which is right for the certificate that the bytes of the file encode, and with `verify` for the market and the
+/// job of the files.
+pub fn verdicts_hold()
+    ensures check { (cert : List ℕ) (f : FilesNow) (s : SinkNow) (g : FilesNow) (t : SinkNow)
+        → AreTold (cert ∷ []) f → Answers (check cert) f s g t 0 → SaysChecked (held f cert) s t }
+    ensures verify { (port job cert : List ℕ) (f : FilesNow) (s : SinkNow) (g : FilesNow) (t : SinkNow)
+        → AreTold (port ∷ job ∷ cert ∷ []) f → Answers (verify port job cert) f s g t 0
+        → SaysVerified (held f port) (held f job) (held f cert) s t }
 {}
 
 /// What `check` and `verify` print is right: where a certificate is accepted, its portfolios meet every limit of the

@@ -15,7 +15,8 @@ mod stop;
 mod tell;
 
 pub use crate::laws::{
-    answers_are_complete, answers_are_right, upgrades_are_right, verdicts_are_right,
+    answers_are_complete, answers_are_right, headline_holds, upgrades_are_right,
+    verdicts_are_right, verdicts_hold,
 };
 use crate::perform::perform;
 use crate::print::end_by;
