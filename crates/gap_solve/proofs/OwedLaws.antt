@@ -84,8 +84,8 @@ module _ (s : Setting) (is : IsSetting s) (nodes : ℕ) (found : Option (List �
         (subst (λ (z : Leaf). IsOwnBest s (root_of s) z) (sym o.1) r.leaf_is.leaf_is.own)
     by_case (inr new) = new
 
-  pub grown : IsGrown s nodes b.nodes
-  grown = record { tree_is = r.sound.tree; root = r.sound.root; within = (let w = r.sound.within in let e = r.budget in omega arith); cuts = split_cuts; own = leaf_owns }
+  pub grown : IsGrown s b.nodes
+  grown = record { cuts = split_cuts; own = leaf_owns }
 
   -- ---- the least never falls below what the root's leaf shows
   root_shows : (least : Shown) → ShownLe least (shows s (root_of s) r.leaf) → AllShow (tangent_problem s) r.begun.nodes least

@@ -59,14 +59,15 @@ module _ (I : InstanceValue) (shift : ShiftValue) (w : Weight) (nodes : ℕ) (wa
       let e = ended is q r f in
       let right = told_right S is nodes b r.sound r.budget r.idle r.refused outcome overall e.overall_is e.told in
       record {
-        weight_is = refl;
         right = right;
-        valid = λ section i. valid_where S nodes (record { weight = w; outcome = outcome; overall = overall; nodes = b.nodes }) section e i;
-        shown = λ best bound section o i. shown_just S nodes (record { weight = w; outcome = outcome; overall = overall; nodes = b.nodes }) section best bound e i o;
         spent = λ o. told_spent S nodes b.nodes overall outcome e.told o;
-        grown = grown S is nodes found b r;
         floor = has_floor S is nodes found b r outcome overall first.meets f right;
         owed = owed S is nodes found b r warm outcome overall first f right;
+        weight_is = refl;
+        ended = e;
+        grown = grown S is nodes found b r;
+        valid = λ section i. valid_where S nodes (record { weight = w; outcome = outcome; overall = overall; nodes = b.nodes }) section e i;
+        shown = λ best bound section o i. shown_just S nodes (record { weight = w; outcome = outcome; overall = overall; nodes = b.nodes }) section best bound e i o;
       }
 
 -- the same of any value with these parts

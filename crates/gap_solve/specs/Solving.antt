@@ -20,7 +20,7 @@ use Rattle.gap_model.specs.declared.outcome.Outcome.TheVariants.{NoPortfolio, Bo
 use Rattle.gap_model.specs.declared.shown.Shown.TheVariants.{AtLeast, Empty}
 use Rattle.gap_model.specs.Settings.{Setting}
 use Rattle.gap_model.specs.Leaves.{shows}
-use Rattle.gap_model.specs.Nodes.{Node, splits_of, part_at, leaf_at, split_at, IsTree}
+use Rattle.gap_model.specs.Nodes.{Node, splits_of, part_at, leaf_at, split_at}
 use Rattle.gap_model.specs.Outcomes.{IsRight}
 use Rattle.gap_cert.specs.Certificates.{CertSection}
 use Rattle.gap_valid.specs.CertTrees.{shown_bound}
@@ -29,18 +29,13 @@ use Rattle.gap_search.specs.Boards.{BestAtMost}
 use Rattle.gap_leaf.specs.Showing.{IsOwnBest}
 use Rattle.gap_leaf.specs.Voids.{IsVoidTry}
 use Rattle.gap_solved.specs.Solveds.{SolvedValue, IsSectionOf}
-use Rattle.gap_shown.specs.Ended.{root_of, IsValidWhere}
+use Rattle.gap_shown.specs.Ended.{root_of, HasEnded, IsValidWhere}
 use Rattle.gap_solve.specs.Ends.{best_in, bound_in, is_bounded, eighths_in, HasFloor}
 
--- the tree of a search is whole and was grown as it should be:
--- tree, root: its nodes are a tree of the root;
--- within: no more splits were made than may be;
+-- the tree of a search was grown as it should be:
 -- cuts: each split cuts its part;
 -- own: each tangent shows on its part no less than its own point does whatever alpha is
-pub record IsGrown (s : Setting) (nodes : ℕ) (tree : List Node) : Type 0 where
-  pub tree_is : IsTree tree
-  pub root : part_at tree 0 ≡ root_of s
-  pub within : splits_of tree ≤ nodes
+pub record IsGrown (s : Setting) (tree : List Node) : Type 0 where
   pub cuts : (n : ℕ) (split : Split) → split_at tree n ≡ Some split → Cuts (part_at tree n) s.instance.held_most split
   pub own : (n : ℕ) (leaf : Leaf) → leaf_at tree n ≡ Some leaf → IsOwnBest s (part_at tree n) leaf
 
@@ -67,21 +62,24 @@ pub record IsOwed (s : Setting) (nodes : ℕ) (warm : Option (List ℕ)) (tree :
 -- was one (`warm`):
 -- right: the outcome is right: a portfolio is one and has its objective, and no list that meets the limits is below
 -- the bound;
--- valid: its section is valid under each head of the instance, the shift and the budget;
--- shown: the bound of an open outcome is what its section shows;
 -- spent: an outcome is open only after exactly the budget of splits was made;
--- floor: its bound, for a closed one the objective, has its floor from 8 times the portfolio, from 0 where there is none
+-- floor: its bound, for a closed one the objective, has its floor from 8 times the portfolio, from 0 where there is none;
+-- ended: its search has ended: its nodes are a whole tree of the root, each leaf in range and tight on its part, the
+-- witness for the whole root in range, and the outcome is what they show;
+-- valid: so its section is valid under each head of the instance, the shift and the budget;
+-- shown: and the bound of an open outcome is what its section shows
 pub record IsSolved (I : InstanceValue) (shift : ShiftValue) (w : Weight) (nodes : ℕ) (warm : Option (List ℕ))
     (solved : SolvedValue) : Type 0 where
-  pub weight_is : solved.weight ≡ w
   pub right : IsRight I w.p w.q solved.outcome
+  pub spent : is_bounded solved.outcome ≡ true → splits_of solved.nodes ≡ nodes
+  pub floor : ForSome (bound_in solved.outcome)
+      (HasFloor (setting_with I shift w) (eighths_in I.market.assets (best_in solved.outcome)))
+  pub owed : IsOwed (setting_with I shift w) nodes warm solved.nodes solved.outcome
+  pub weight_is : solved.weight ≡ w
+  pub ended : HasEnded (setting_with I shift w) nodes solved
+  pub grown : IsGrown (setting_with I shift w) solved.nodes
   pub valid : (section : CertSection) → IsSectionOf I.market.assets solved section
       → IsValidWhere I shift.diagonal nodes section
   pub shown : (best : Option Best) (bound : ℤ) (section : CertSection) → solved.outcome ≡ Bounded best bound
       → IsSectionOf I.market.assets solved section
       → shown_bound (setting_with I shift w) (root_of (setting_with I shift w)) solved.overall section.tree ≡ AtLeast bound
-  pub spent : is_bounded solved.outcome ≡ true → splits_of solved.nodes ≡ nodes
-  pub grown : IsGrown (setting_with I shift w) nodes solved.nodes
-  pub floor : ForSome (bound_in solved.outcome)
-      (HasFloor (setting_with I shift w) (eighths_in I.market.assets (best_in solved.outcome)))
-  pub owed : IsOwed (setting_with I shift w) nodes warm solved.nodes solved.outcome

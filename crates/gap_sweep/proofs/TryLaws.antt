@@ -54,7 +54,7 @@ pub tries_stopped : (I : InstanceValue) (shift : ShiftValue) (nodes : ℕ) (weig
     (solved : SolvedValue) (halt : Halt) → IsSolved I shift weight nodes old.warm solved → PutsOut I solved name f s g t (Err halt)
     → Tries I shift nodes weight number old new name f s g t (Err halt)
 tries_stopped I shift nodes weight number old new name f s g t solved halt solves puts =
-    let it = has_section I.market.assets solved solves.grown.tree_is in
+    let it = has_section I.market.assets solved solves.ended.searched.tree_is in
     let d : Done = done_of I.market.assets solved it in
     record {
       done = d ∷ [];
@@ -69,7 +69,7 @@ pub tries_unkept : (I : InstanceValue) (shift : ShiftValue) (nodes : ℕ) (weigh
     (solved : SolvedValue) → IsSolved I shift weight nodes old.warm solved → PutsOut I solved name f s g t (Ok tt)
     → Tries I shift nodes weight number old new name f s g t (Err OutOfMemory)
 tries_unkept I shift nodes weight number old new name f s g t solved solves puts =
-    let it = has_section I.market.assets solved solves.grown.tree_is in
+    let it = has_section I.market.assets solved solves.ended.searched.tree_is in
     let d : Done = done_of I.market.assets solved it in
     record {
       done = d ∷ [];
@@ -90,7 +90,7 @@ pub tries_done : (I : InstanceValue) (shift : ShiftValue) (nodes : ℕ) (weight 
     (solved : SolvedValue) → IsSolved I shift weight nodes old.warm solved → PutsOut I solved name f s g t (Ok tt)
     → Notes I number solved.weight (best_in solved.outcome) old new → Tries I shift nodes weight number old new name f s g t (Ok tt)
 tries_done I shift nodes weight number old new name f s g t solved solves puts notes =
-    let it = has_section I.market.assets solved solves.grown.tree_is in
+    let it = has_section I.market.assets solved solves.ended.searched.tree_is in
     let d : Done = done_of I.market.assets solved it in
     record {
       done = d ∷ [];

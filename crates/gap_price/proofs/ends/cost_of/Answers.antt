@@ -1,4 +1,4 @@
-use Rattle.std.proofs.Common.{◌≡◌, ◌≤◌, FitsSigned, ℤ, pos, ◌-ℤ◌, ◌*ℤ◌, unsigned_abs, lit<, ◌∙◌, ap, subst, sym, rules, arith}
+use Rattle.std.proofs.Common.{◌≤◌, FitsSigned, ℤ, pos, ◌-ℤ◌, ◌*ℤ◌, unsigned_abs, lit<, ◌∙◌, ap, subst, sym, rules, arith}
 use Rattle.std.proofs.lemmas.Int.{ints, to_z-of_z}
 use Rattle.std.specs.Int.{w128}
 use Rattle.gap_price.proofs.Arithmetic.{difference_back}
