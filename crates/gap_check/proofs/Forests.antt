@@ -9,7 +9,7 @@ use Rattle.gap_model.specs.declared.shown.Shown.{Shown}
 use Rattle.gap_cert.specs.declared.field.Field.{Field}
 use Rattle.gap_cert.specs.declared.field.Field.TheVariants as field
 use Rattle.gap_cert.specs.Certificates.{CertLeaf, CertTree, tip, fork, leaf_field, tree_fields}
-use Rattle.gap_walk.specs.Walks.{splits_first, IsLawfulNext}
+use Rattle.gap_judge.specs.Walks.{splits_first, IsLawfulNext}
 use Rattle.gap_valid.specs.CertTrees.{IsFormed, cert_splits, PlacedLeaf, cert_leaves, lesser_shown, least_shown}
 use Rattle.gap_model.proofs.OrderLaws.{shown_le_trans}
 use Rattle.gap_valid.proofs.ShownLaws.{lesser_empty, le_both, lesser_left, lesser_right, lesser_most}

@@ -22,7 +22,7 @@ use Rattle.gap_cert.specs.declared.context.Phase.TheVariants as phase
 use Rattle.gap_cert.specs.declared.context.Context.{Context}
 use Rattle.gap_cert.specs.Contexts.{behind_field, behind_leaf, enters}
 use Rattle.gap_cert.specs.Certificates.{CertHead, CertLeaf, count, void, tangent, leaf_field}
-use Rattle.gap_walk.specs.Walks.{splits_first, IsLawfulNext}
+use Rattle.gap_judge.specs.Walks.{splits_first, IsLawfulNext}
 use Rattle.gap_valid.specs.Heads.{instance_in, market_in, root_in, IsHead}
 use Rattle.gap_valid.specs.CertTrees.{leaf_shows, lesser_shown, IsWitness, IsLeafIn}
 use Rattle.gap_valid.specs.Valid.{IsWeight}

@@ -3,3 +3,4 @@ pub mod States
 pub mod Accepting
 pub mod Stages
 pub mod Going
+pub mod Telling

@@ -1,1 +1,5 @@
 pub mod FrontLaws
+pub mod MarkLaws
+pub mod StepLaws
+pub mod DrainLaws
+mod PutLaws

@@ -4,3 +4,6 @@ pub mod Plan
 pub mod Store
 pub mod Memory
 pub mod Sinks
+pub mod Marks
+pub mod Steps
+pub mod Drains

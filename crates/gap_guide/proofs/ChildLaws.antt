@@ -28,9 +28,9 @@ use Rattle.gap_model.proofs.OrderLaws.{shown_le_trans}
 use Rattle.gap_tangent.proofs.ShownLaws.{tangent_in_range}
 use Rattle.gap_tangent.proofs.EntryLaws.{point_is}
 use Rattle.gap_search.specs.Boards.{FitsPart, IsOpen}
-use Rattle.gap_placed.specs.Showing.{ShowsSo}
-use Rattle.gap_drive.specs.declared.branch.Branch.{Branch}
-use Rattle.gap_drive.specs.Driven.{IsBranch}
+use Rattle.gap_model.specs.Showing.{ShowsSo}
+use Rattle.gap_search.specs.declared.branch.Branch.{Branch}
+use Rattle.gap_search.specs.Driven.{IsBranch}
 use Rattle.gap_leaf.specs.Showing.{witness_shows}
 use Rattle.gap_leaf.specs.Finding.{IsWitness, IsLeafFor}
 use Rattle.gap_guide.specs.Hints.{IsTangentOf}

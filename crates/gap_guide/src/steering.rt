@@ -3,7 +3,7 @@
 ghost use Rattle.std.specs.Prelude.{◌≡◌, true, false, IfOk, IsTrue};
 ghost use Rattle.gap_box.specs.Splits.{lawful_split, child_cells};
 ghost use Rattle.gap_model.specs.Problems.{tangent_problem, IsPart};
-ghost use Rattle.gap_placed.specs.Showing.{ShowsSo};
+ghost use Rattle.gap_model.specs.Showing.{ShowsSo};
 ghost use Rattle.gap_leaf.specs.Finding.{IsLeafFor};
 
 use crate::hint::witness_of;
@@ -11,11 +11,9 @@ use crate::seen::was_seen;
 use bumpalo::Bump;
 use gap_base::{Lots, OutOfMemory};
 use gap_box::{Part, Side, Split};
-use gap_drive::{Branch, Guide};
 use gap_leaf::Hinted;
-use gap_model::{Leaf, NodeBound};
-use gap_placed::Placed;
-use gap_search::Ticket;
+use gap_model::{Leaf, NodeBound, Placed};
+use gap_search::{Branch, Guide, Ticket};
 use gap_start::{polished, rounding_of};
 use gap_tangent::MeanVariance;
 use gap_witness::split_for;

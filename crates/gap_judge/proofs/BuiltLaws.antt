@@ -13,9 +13,9 @@ use Rattle.gap_box.specs.Parts as parts
 use Rattle.gap_instance.specs.Instances.{InstanceValue, AreBetween, AreLimits, IsInstance, instance_of}
 use Rattle.gap_psd.specs.Shifts.{ShiftValue, zero_shift, with_r, with_d}
 use Rattle.gap_cert.specs.Certificates.{AssetLine, CertHead}
-use Rattle.gap_head.proofs.Same.{table_is}
-use Rattle.gap_head.proofs.SaidLaws.{read_is_said}
-use Rattle.gap_head.specs.Said.{said_market, said_instance}
+use Rattle.gap_valid.proofs.Same.{table_is}
+use Rattle.gap_valid.proofs.SaidLaws.{read_is_said}
+use Rattle.gap_valid.specs.Said.{said_market, said_instance}
 use Rattle.gap_valid.specs.Heads.{row_number, pair_number, table, given_r, market_in, instance_in, shift_in, root_in, IsHead, IsAssetLine, IsDiagonal}
 use Rattle.gap_valid.proofs.HeadLaws.{all_places, instance_is, turned_rho}
 use Rattle.gap_judge.specs.Steps.{IsShiftUpTo}

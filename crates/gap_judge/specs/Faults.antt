@@ -19,7 +19,7 @@ use Rattle.gap_model.specs.Theta.{void_theta}
 use Rattle.gap_cert.specs.declared.field.Field.{Field}
 use Rattle.gap_cert.specs.declared.field.Field.TheVariants as field
 use Rattle.gap_cert.specs.Certificates.{CertHead, CertLeaf, count, void, tangent}
-use Rattle.gap_walk.specs.Walks.{IsLawfulNext}
+use Rattle.gap_judge.specs.Walks.{IsLawfulNext}
 use Rattle.gap_valid.specs.Heads.{instance_in, shift_in}
 use Rattle.gap_valid.specs.CertTrees.{greater_shown, has_point}
 use Rattle.gap_judge.specs.Progress.{Progress, with_diagonal, is_open_outcome, claimed_now, setting_now, first_part, shown_next, with_leaf}

@@ -6,3 +6,4 @@ pub mod Stops
 pub mod Courses
 pub mod Kept
 pub mod Steps
+pub mod Walks

@@ -13,7 +13,7 @@ use Rattle.gap_model.specs.Settings.{Setting}
 use Rattle.gap_cert.specs.declared.field.Field.{Field}
 use Rattle.gap_cert.specs.declared.field.Field.TheVariants as field
 use Rattle.gap_cert.specs.Certificates.{AssetLine, CertHead, CertLeaf, count, void, tangent}
-use Rattle.gap_walk.specs.Walks.{splits_first}
+use Rattle.gap_judge.specs.Walks.{splits_first}
 use Rattle.gap_valid.specs.Heads.{setting_in, root_in}
 use Rattle.gap_valid.specs.CertTrees.{leaf_shows, lesser_shown, overall_shows}
 

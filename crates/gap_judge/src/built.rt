@@ -3,7 +3,7 @@
 ghost use Rattle.std.specs.Prelude.{◌≡◌, ◌+◌, ◌*◌, ◌<◌, ◌≤◌, IfOk, IfErr, unsigned_abs, map};
 ghost use Rattle.gap_base.specs.Markets.{rho_of};
 ghost use Rattle.gap_base.specs.Sums.{at};
-ghost use Rattle.gap_head.specs.Steps.{IsSaidUpTo};
+ghost use Rattle.gap_valid.specs.Steps.{IsSaidUpTo};
 ghost use Rattle.gap_valid.specs.Heads.{pair_number, row_number, market_in, shift_in, IsHead};
 ghost use Rattle.gap_judge.specs.Faults.{factor_place};
 ghost use Rattle.gap_judge.specs.Steps.{IsShiftUpTo};
@@ -47,7 +47,7 @@ fn rho_between(head: &Head, i: u16, j: u16) -> i32
 }
 
 /// Says the correlations of asset `i` with each asset before it.
-#[tactic(auto, using(gap_head::proofs::Saying::said_row), unfolding(gap_valid::specs::Heads::market_in))]
+#[tactic(auto, using(gap_valid::proofs::Saying::said_row), unfolding(gap_valid::specs::Heads::market_in))]
 fn say_pairs(market: &mut Market, head: &Head, i: u16)
     requires head_is { IsHead head.now }
     requires asset_in { i < head.now.n }
@@ -74,7 +74,7 @@ fn say_asset(market: &mut Market, head: &Head, i: u16)
 }
 
 /// The market of a head.
-#[tactic(auto, using(gap_head::proofs::Saying::said_start, gap_head::proofs::Saying::said_whole, crate::proofs::BuiltLaws::market_said, gap_valid::proofs::HeadLaws::market_is), unfolding(gap_valid::specs::Heads::market_in))]
+#[tactic(auto, using(gap_valid::proofs::Saying::said_start, gap_valid::proofs::Saying::said_whole, crate::proofs::BuiltLaws::market_said, gap_valid::proofs::HeadLaws::market_is), unfolding(gap_valid::specs::Heads::market_in))]
 fn market_of(alloc: Global, head: &Head) -> Result<Market, OutOfMemory>
     requires { IsHead head.now }
     ensures { IfOk result (λ market. market ≡ market_in head.now) }

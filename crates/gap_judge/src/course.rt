@@ -1,8 +1,8 @@
 //! What the items of a certificate behind its head say so far.
 
+use crate::walk::Walk;
 use gap_base::{Lots, Weight};
 use gap_model::{Best, Shown, Told};
-use gap_walk::Walk;
 
 /// What is told of the sections before the present one; of the present one its weight, its outcome (1 closed, 2 none,
 /// 3 open, 4 open without a portfolio), its portfolio, that with its objective, its bound, what its witness for the whole

@@ -24,11 +24,11 @@ use crate::kept::Kept;
 use crate::leaf::next_part;
 use crate::shows::tangent_shown;
 use crate::stop::CertStop;
+use crate::walk::Walk;
 use gap_base::{Lots, Weight, Witness};
 use gap_box::Split;
 use gap_model::{Best, CertKind, Shown};
 use gap_objective::value;
-use gap_walk::Walk;
 use std::alloc::Global;
 
 /// Begins a section: its tree stands at the root.

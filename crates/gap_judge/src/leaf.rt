@@ -19,10 +19,10 @@ use crate::head::Head;
 use crate::kept::Kept;
 use crate::shows::{lesser, meets_count, tangent_shown, void_theta_at};
 use crate::stop::CertStop;
+use crate::walk::Walk;
 use gap_base::Witness;
 use gap_box::Part;
 use gap_model::{CertKind, Shown};
-use gap_walk::Walk;
 
 /// The part of the next node.
 pub(crate) fn next_part(walk: &Option<Walk>) -> &Part

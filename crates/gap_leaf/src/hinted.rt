@@ -4,7 +4,7 @@ ghost use Rattle.std.specs.Prelude.{◌≡◌, ℕ, List, true, None, IfOk};
 ghost use Rattle.gap_box.specs.Parts.{can_meet, IsSingle, IsWithin, root_cells};
 ghost use Rattle.gap_model.specs.declared.shown.Shown.TheVariants.{Empty};
 ghost use Rattle.gap_model.specs.Problems.{tangent_problem};
-ghost use Rattle.gap_placed.specs.Showing.{ShowsSo};
+ghost use Rattle.gap_model.specs.Showing.{ShowsSo};
 ghost use Rattle.gap_tangent.specs.Seen.{setting_of};
 ghost use Rattle.gap_leaf.specs.Voids.{first_void};
 ghost use Rattle.gap_leaf.specs.Finding.{IsWitness, IsLeafFor};
@@ -15,8 +15,7 @@ use crate::voids::first_void;
 use bumpalo::Bump;
 use gap_base::{Eighths, OutOfMemory, Witness};
 use gap_box::Part;
-use gap_model::{Leaf, Shown};
-use gap_placed::{Placed, placed_at};
+use gap_model::{Leaf, Placed, Shown, placed_at};
 use gap_tangent::{MeanVariance, Tangent};
 use std::marker::Model;
 

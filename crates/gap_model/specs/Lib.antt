@@ -11,3 +11,4 @@ pub mod Nodes
 pub mod Tight
 pub mod Fronts
 pub mod Priced
+pub mod Showing

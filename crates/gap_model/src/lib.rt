@@ -1,5 +1,5 @@
-//! What search and bounds share: leaves and what they show, the trait of bounds with its laws, and the definitions of
-//! the tangent bound: the Lagrangian, theta, and what a leaf shows by them.
+//! What search and bounds share: leaves, alone and beside what they show, the trait of bounds with its laws, and the
+//! definitions of the tangent bound: the Lagrangian, theta, and what a leaf shows by them.
 #![tactic(auto)]
 
 mod bound;
@@ -8,6 +8,7 @@ mod front;
 mod laws;
 mod leaf;
 mod outcome;
+mod placed;
 mod section_head;
 mod shown;
 
@@ -20,5 +21,6 @@ pub use laws::{
 };
 pub use leaf::{Entry, Leaf};
 pub use outcome::{Best, Outcome, Told};
+pub use placed::{Placed, placed_at};
 pub use section_head::SectionHead;
 pub use shown::Shown;

@@ -2,8 +2,8 @@
 use Rattle.std.proofs.Common.{◌≡◌, ℕ, List, Option, Some, None, Result, Ok, Err, refl, sym, ap, ◌∙◌}
 use Rattle.gap_base.specs.declared.job.Job.{Job}
 use Rattle.gap_base.specs.Markets.{MarketValue, IsMarket}
-use Rattle.gap_head.specs.Said.{IsSaid}
-use Rattle.gap_head.proofs.SaidLaws.{read_is_said, said_made}
+use Rattle.gap_valid.specs.Said.{IsSaid}
+use Rattle.gap_valid.proofs.SaidLaws.{read_is_said, said_made}
 use Rattle.gap_instance.specs.Instances.{InstanceValue, IsInstance, instance_of}
 use Rattle.gap_job.specs.Ranges.{IsJob}
 use Rattle.gap_model.specs.declared.outcome.Told.{Told}

@@ -5,9 +5,9 @@ use Rattle.std.proofs.lemmas.List.Elements.{All-nil, All-cons}
 use Rattle.gap_base.specs.declared.job.Job.{Job}
 use Rattle.gap_base.specs.Markets.{MarketValue, IsMarket}
 use Rattle.gap_gen.specs.Demo.{IsGenerated}
-use Rattle.gap_head.specs.Said.{said_market, said_rho}
-use Rattle.gap_head.proofs.Same.{list_same, table_same}
-use Rattle.gap_head.proofs.SaidLaws.{said_rho-two, said_rho-same}
+use Rattle.gap_valid.specs.Said.{said_market, said_rho}
+use Rattle.gap_valid.proofs.Same.{list_same, table_same}
+use Rattle.gap_valid.proofs.SaidLaws.{said_rho-two, said_rho-same}
 use Rattle.gap_instance.specs.Instances.{instance_of}
 use Rattle.gap_job.specs.Ranges.{IsWeight}
 use Rattle.gap_valid.specs.Heads.{table}

@@ -5,8 +5,8 @@ use Rattle.std.proofs.lemmas.Option.{slice_get_cases}
 use Rattle.gap_base.specs.Markets.{MarketValue, IsMarket}
 use Rattle.gap_base.specs.declared.job.Job.{Job}
 use Rattle.gap_base.specs.declared.weight.Weight.{Weight}
-use Rattle.gap_head.specs.Said.{said_market}
-use Rattle.gap_head.proofs.SaidLaws.{instance_said, said_made, made_is_said}
+use Rattle.gap_valid.specs.Said.{said_market}
+use Rattle.gap_valid.proofs.SaidLaws.{instance_said, said_made, made_is_said}
 use Rattle.gap_instance.specs.Instances.{InstanceValue, IsInstance, AreLimits, instance_of}
 use Rattle.gap_job.specs.Ranges.{IsJob, IsWeight as IsJobWeight}
 use Rattle.gap_valid.specs.Valid.{IsWeight}

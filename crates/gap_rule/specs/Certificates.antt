@@ -6,7 +6,7 @@ use Rattle.gap_cert.specs.Bytes.{AreBytes}
 use Rattle.gap_check.specs.Accepting.{Accepted}
 use Rattle.gap_check.specs.Histories.{IsFaultOf}
 use Rattle.gap_check.specs.States.{State, HasRead}
-use Rattle.gap_head.specs.Said.{said_market}
+use Rattle.gap_valid.specs.Said.{said_market}
 use Rattle.gap_instance.specs.Instances.{instance_of}
 use Rattle.gap_model.specs.declared.cert_fault.CertFault.{CertFault}
 use Rattle.gap_model.specs.declared.outcome.Told.{Told}

@@ -14,7 +14,7 @@ use Rattle.gap_rule.specs.declared.stop.Halt.TheVariants.{Refused, ReadFault, Ou
 use Rattle.gap_rule.specs.declared.task.Task.{Task}
 use Rattle.gap_rule.specs.declared.task.Work.{Work}
 use Rattle.gap_base.specs.declared.weight.Weight.{Weight}
-use Rattle.gap_head.specs.Said.{IsSaid}
+use Rattle.gap_valid.specs.Said.{IsSaid}
 use Rattle.gap_instance.specs.Instances.{IsInstance}
 use Rattle.gap_valid.specs.Valid.{IsWeight}
 use Rattle.gap_rule.specs.Certificates.{WasAccepted}

@@ -6,7 +6,7 @@ use Rattle.gap_instance.specs.Instances.{instance_of}
 use Rattle.gap_base.specs.declared.weight.Weight.{Weight}
 use Rattle.gap_words.specs.declared.form.DemoWords.{DemoWords}
 use Rattle.gap_words.specs.declared.form.QuickWords.{QuickWords}
-use Rattle.gap_head.specs.Said.{said_market}
+use Rattle.gap_valid.specs.Said.{said_market}
 use Rattle.gap_rule.specs.declared.task.Work.{Work}
 
 -- the job that the words of `quick` name for n assets: one weight, each asset may hold 1 to all lots, nothing is held at

@@ -10,3 +10,5 @@ pub mod CoverLaws
 pub mod BarrenLaws
 pub mod StayLaws
 pub mod WholeLaws
+pub mod DrivenLaws
+pub mod TurnLaws

@@ -4,3 +4,4 @@ pub mod Kept
 pub mod Barren
 pub mod Stays
 pub mod Whole
+pub mod Driven

@@ -7,7 +7,7 @@ ghost use Rattle.gap_model.specs.Nodes.{splits_of, part_at, leaf_at};
 ghost use Rattle.gap_model.specs.declared.outcome.Best.{Best};
 ghost use Rattle.gap_model.specs.Tight.{IsTight};
 ghost use Rattle.gap_model.specs.declared.leaf.Leaf.{Leaf};
-ghost use Rattle.gap_placed.specs.Showing.{ShowsSo};
+ghost use Rattle.gap_model.specs.Showing.{ShowsSo};
 ghost use Rattle.gap_search.specs.Boards.{State, Board, IsBest, Claimed, node_held, tickets, FitsPart, IsSound, OpenLeaf, IsOpen};
 ghost use Rattle.gap_search.specs.Steps.{Claim, ticket_of, Holds, FitsChild, Settle, release, with_best, improves, offered, Begins, Resumes, End};
 
@@ -17,8 +17,7 @@ use crate::pieces::{
 };
 use gap_base::{Lots, OutOfMemory};
 use gap_box::{NodeId, Part, Side, Split};
-use gap_model::{Best, Leaf, NodeBound, Outcome};
-use gap_placed::Placed;
+use gap_model::{Best, Leaf, NodeBound, Outcome, Placed};
 use gap_queue::Queue;
 use gap_tree::Tree;
 use std::alloc::Global;

@@ -40,7 +40,7 @@ use Rattle.gap_valid.specs.CertTrees.{leaf_shows, greater_shown, overall_shows, 
 use Rattle.gap_valid.proofs.ShownLaws.{le_same, greater_most}
 use Rattle.gap_leaf.specs.Showing.{witness_shows}
 use Rattle.gap_leaf.specs.Finding as finding
-use Rattle.gap_shown.specs.Ended.{root_of, IsSearched, shown_with, ShowsNumber, ShowsJust, IsTold}
+use Rattle.gap_solve.specs.Ended.{root_of, IsSearched, shown_with, ShowsNumber, ShowsJust, IsTold}
 use Rattle.gap_solve.specs.Searching.{IsRootLeaf, IsBoundedEnd, IsPolished, IsOverall, IsOpenEnd, IsPlainEnd, IsFinish}
 use Rattle.gap_tree.proofs.TreeLaws.{within_same}
 use Rattle.gap_guide.specs.Hints.{IsTangentOf}

@@ -40,7 +40,7 @@ use Rattle.gap_lines.specs.Lines.{IsBest}
 use Rattle.gap_tangent.specs.Lines.{or_zero, alpha_curve}
 use Rattle.gap_witness.specs.Points.{choice_of, point}
 use Rattle.gap_leaf.specs.Showing.{witness_shows, NoLessThanAt}
-use Rattle.gap_shown.specs.Ended.{root_of}
+use Rattle.gap_solve.specs.Ended.{root_of}
 use Rattle.gap_solve.specs.Ends.{HasFloor}
 use Rattle.gap_solve.specs.Searching.{IsAlphaAt, IsBestAt, IsRootLeaf}
 

@@ -37,7 +37,7 @@ use Rattle.gap_search.proofs.ResumeLaws.{root_leaf}
 use Rattle.gap_box.proofs.CountLaws.{pick_meets}
 use Rattle.gap_leaf.specs.Showing.{IsOwnBest}
 use Rattle.gap_leaf.specs.Voids.{IsVoidTry}
-use Rattle.gap_shown.specs.Ended.{root_of}
+use Rattle.gap_solve.specs.Ended.{root_of}
 use Rattle.gap_solve.specs.Ends.{best_in, bound_in, is_bounded, eighths_in, HasFloor}
 use Rattle.gap_solve.specs.Searching.{CostsAtMost, IsFirst, eighths_from, allowed, fitting, offered_first, IsRun, IsOpenEnd, IsPlainEnd, IsFinish}
 use Rattle.gap_solve.specs.Solving.{IsGrown, IsOwed}

@@ -14,14 +14,14 @@ use Rattle.gap_model.specs.declared.leaf.Leaf.{Leaf}
 use Rattle.gap_model.specs.Problems.{Problem, tangent_problem}
 use Rattle.gap_search.specs.Boards.{Board, State, tickets, IsSound}
 use Rattle.gap_search.specs.Steps.{Begins, Refusal, offered}
-use Rattle.gap_drive.specs.Driven.{IsDriven, IsSame}
+use Rattle.gap_search.specs.Driven.{IsDriven, IsSame}
 use Rattle.gap_tangent.specs.declared.mean_variance.MeanVariance.{MeanVariance}
 use Rattle.gap_tangent.specs.Seen.{setting_of}
 use Rattle.gap_tangent.specs.Bounds.{setting_with}
 use Rattle.gap_solved.specs.Solveds.{SolvedValue}
 use Rattle.gap_base.specs.declared.witness.Witness.{Witness}
-use Rattle.gap_shown.specs.Ended.{IsTold, HasEnded}
-use Rattle.gap_shown.proofs.EndLaws.{valid_where, shown_just}
+use Rattle.gap_solve.specs.Ended.{IsTold, HasEnded}
+use Rattle.gap_solve.proofs.EndedLaws.{valid_where, shown_just}
 use Rattle.gap_solve.specs.Ends.{is_bounded}
 use Rattle.gap_solve.specs.Searching.{IsFirst, eighths_from, allowed, fitting, offered_first, IsRootLeaf, IsRun, IsFinish}
 use Rattle.gap_solve.specs.Solving.{IsSolved}

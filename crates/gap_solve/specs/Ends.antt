@@ -10,7 +10,7 @@ use Rattle.gap_model.specs.Settings.{Setting}
 use Rattle.gap_witness.specs.Points.{choice_of, point}
 use Rattle.gap_witness.specs.Having.{HasTangentPoint}
 use Rattle.gap_leaf.specs.Showing.{NoLessThanAt}
-use Rattle.gap_shown.specs.Ended.{root_of}
+use Rattle.gap_solve.specs.Ended.{root_of}
 
 -- the portfolio of an outcome
 abbrev pub best_in : Outcome → Option Best

@@ -1,3 +1,4 @@
 pub mod Ends
 pub mod Solving
 pub mod Searching
+pub mod Ended

@@ -26,10 +26,10 @@ use Rattle.gap_model.specs.Problems.{Problem, tangent_problem}
 use Rattle.gap_model.specs.Outcomes.{IsPortfolio}
 use Rattle.gap_search.specs.Boards.{Board, tickets, IsSound}
 use Rattle.gap_search.specs.Steps.{Begins, Refusal, End, offered}
-use Rattle.gap_drive.specs.Driven.{IsDriven}
+use Rattle.gap_search.specs.Driven.{IsDriven}
 use Rattle.gap_leaf.specs.Showing.{witness_shows, NoLessThanAt, IsOwnBest}
 use Rattle.gap_leaf.specs.Finding.{IsWitness, IsLeafFor}
-use Rattle.gap_shown.specs.Ended.{root_of}
+use Rattle.gap_solve.specs.Ended.{root_of}
 use Rattle.gap_solved.specs.Solveds.{SolvedValue}
 use Rattle.gap_solve.specs.Ends.{HasFloor}
 

@@ -29,7 +29,7 @@ use Rattle.gap_search.specs.Boards.{BestAtMost}
 use Rattle.gap_leaf.specs.Showing.{IsOwnBest}
 use Rattle.gap_leaf.specs.Voids.{IsVoidTry}
 use Rattle.gap_solved.specs.Solveds.{SolvedValue, IsSectionOf}
-use Rattle.gap_shown.specs.Ended.{root_of, HasEnded, IsValidWhere}
+use Rattle.gap_solve.specs.Ended.{root_of, HasEnded, IsValidWhere}
 use Rattle.gap_solve.specs.Ends.{best_in, bound_in, is_bounded, eighths_in, HasFloor}
 
 -- the tree of a search was grown as it should be:

@@ -8,7 +8,7 @@ ghost use Rattle.gap_instance.specs.Objective.{objective};
 ghost use Rattle.gap_model.specs.Leaves.{IsPoint};
 ghost use Rattle.gap_tangent.specs.Seen.{setting_of};
 ghost use Rattle.gap_solve.specs.Searching.{CostsAtMost, IsFirst, eighths_from, IsAlphaAt, IsBestAt, IsRootLeaf};
-ghost use Rattle.gap_shown.specs.Ended.{root_of};
+ghost use Rattle.gap_solve.specs.Ended.{root_of};
 
 use bumpalo::Bump;
 use gap_base::{Eighths, Lots, OutOfMemory, Weight, Witness};

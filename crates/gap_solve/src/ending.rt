@@ -9,7 +9,7 @@ ghost use Rattle.gap_search.specs.Boards.{tickets};
 ghost use Rattle.gap_tangent.specs.Seen.{setting_of};
 ghost use Rattle.gap_leaf.specs.Showing.{witness_shows};
 ghost use Rattle.gap_leaf.specs.Finding.{IsWitness};
-ghost use Rattle.gap_shown.specs.Ended.{root_of};
+ghost use Rattle.gap_solve.specs.Ended.{root_of};
 ghost use Rattle.gap_solve.specs.Ends.{HasFloor};
 ghost use Rattle.gap_solve.specs.Searching.{IsPolished, IsOpenEnd, IsBoundedEnd, IsFinish, IsFinished};
 ghost use Rattle.std.specs.Option.{ForSome};

@@ -9,9 +9,8 @@ ghost use Rattle.gap_solve.specs.Searching.{IsRun};
 use crate::begin::{point_of, root_leaf};
 use bumpalo::Bump;
 use gap_base::{Lots, OutOfMemory};
-use gap_drive::drive;
 use gap_guide::Steering;
-use gap_search::Search;
+use gap_search::{Search, drive};
 use gap_tangent::MeanVariance;
 use std::alloc::Global;
 

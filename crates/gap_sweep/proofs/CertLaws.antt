@@ -10,10 +10,10 @@ use Rattle.gap_cert.specs.declared.field.Version.TheVariants.{Two}
 use Rattle.gap_cert.specs.Certificates.{CertHead, CertSection, Certificate, spelling, Encodes}
 use Rattle.gap_valid.specs.Heads.{instance_in, shift_in, IsHead}
 use Rattle.gap_valid.specs.Valid.{IsValid, IsValidSection}
-use Rattle.gap_head.specs.HeadOf.{head_of, AreRanged}
-use Rattle.gap_head.proofs.HeadOfLaws.{head_is, said_stands, nodes_stand, diagonal_stands, dominant_stays}
-use Rattle.gap_encode.proofs.Heads.{encodes}
-use Rattle.gap_encode.proofs.Validity.{writable}
+use Rattle.gap_valid.specs.HeadOf.{head_of, AreRanged}
+use Rattle.gap_valid.proofs.HeadOfLaws.{head_is, said_stands, nodes_stand, diagonal_stands, dominant_stays}
+use Rattle.gap_valid.proofs.Heads.{encodes}
+use Rattle.gap_valid.proofs.Validity.{writable}
 use Rattle.gap_sweep.specs.Asked.{Asked, Done, IsShiftOf, AreDone, portfolio}
 use Rattle.gap_sweep.specs.Runs.{HasDone}
 use Rattle.gap_sweep.specs.Certified.{IsAsked, sections_of, certificate}

@@ -17,7 +17,7 @@ use Rattle.gap_cert.specs.Certificates.{CertSection}
 use Rattle.gap_solved.specs.Solveds.{SolvedValue, IsSectionOf}
 use Rattle.gap_solved.proofs.SectionLaws.{section_of}
 use Rattle.gap_solve.specs.Ends.{best_in}
-use Rattle.gap_trace.specs.Marks.{Mark}
+use Rattle.gap_files.specs.Marks.{Mark}
 use Rattle.gap_sweep.specs.Asked.{Done, lots_of, portfolio, warm_behind, IsDone, AreDone}
 use Rattle.gap_sweep.specs.Texts.{own_row, own_number, front_rows, front_numbers}
 use Rattle.gap_sweep.specs.Traces.{weight_trace, weights_trace}

@@ -9,11 +9,11 @@ use Rattle.gap_model.specs.declared.front.FrontRow.{FrontRow}
 use Rattle.gap_model.specs.Nodes.{splits_of}
 use Rattle.gap_report.specs.Report.{market_line, weight_line, lots_line}
 use Rattle.gap_solved.specs.Solveds.{SolvedValue}
-use Rattle.gap_trace.specs.Marks.{prints}
-use Rattle.gap_trace.specs.Steps.{Step}
-use Rattle.gap_trace.specs.declared.halt.Halt.{Halt}
-use Rattle.gap_trace.proofs.MarkLaws.{prints-none}
-use Rattle.gap_trace.proofs.StepLaws.{step_same, step_none}
+use Rattle.gap_files.specs.Marks.{prints}
+use Rattle.gap_files.specs.Steps.{Step}
+use Rattle.gap_files.specs.declared.halt.Halt.{Halt}
+use Rattle.gap_files.proofs.MarkLaws.{prints-none}
+use Rattle.gap_files.proofs.StepLaws.{step_same, step_none}
 use Rattle.gap_sweep.specs.declared.style.Style.{Style}
 use Rattle.gap_sweep.specs.declared.style.Style.TheVariants.{Whole, Single}
 use Rattle.gap_sweep.specs.Asked.{Done}

@@ -2,10 +2,10 @@
 use Rattle.std.proofs.Common.{◌≡◌, ℕ, List, ◌++◌, length, Result, Ok, Err, sym, ap, subst}
 use Rattle.gap_files.specs.Outside.{FilesNow, SinkNow}
 use Rattle.gap_psd.specs.Shifts.{ShiftValue}
-use Rattle.gap_trace.specs.Marks.{Mark, appends, prints}
-use Rattle.gap_trace.specs.Steps.{Step}
-use Rattle.gap_trace.specs.declared.halt.Halt.{Halt}
-use Rattle.gap_trace.proofs.StepLaws.{then_step, stops_early}
+use Rattle.gap_files.specs.Marks.{Mark, appends, prints}
+use Rattle.gap_files.specs.Steps.{Step}
+use Rattle.gap_files.specs.declared.halt.Halt.{Halt}
+use Rattle.gap_files.proofs.StepLaws.{then_step, stops_early}
 use Rattle.gap_sweep.specs.Asked.{Asked}
 use Rattle.gap_sweep.specs.Texts.{head_bytes, market_text}
 use Rattle.gap_sweep.specs.Traces.{opening_trace}

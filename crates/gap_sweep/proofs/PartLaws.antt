@@ -9,14 +9,14 @@ use Rattle.gap_cert.specs.Bytes.{be}
 use Rattle.gap_cert.specs.Fields.{end_mark}
 use Rattle.gap_cert.specs.Certificates.{spelled, head_fields}
 use Rattle.gap_cert.proofs.Numbers.{length-be}
-use Rattle.gap_head.specs.HeadOf.{head_of}
+use Rattle.gap_valid.specs.HeadOf.{head_of}
 use Rattle.gap_writer.specs.Writing.{Written, blank, put, put_all, end_bytes}
-use Rattle.gap_trace.specs.Marks.{Mark, appends, streams, DidLess}
-use Rattle.gap_trace.specs.Steps.{Step, Closes}
-use Rattle.gap_trace.specs.declared.halt.Halt.{Halt}
-use Rattle.gap_trace.specs.declared.halt.Halt.TheVariants.{OutOfMemory}
-use Rattle.gap_trace.proofs.MarkLaws.{did_none, length-appends}
-use Rattle.gap_trace.proofs.StepLaws.{gives_up_at_once, step_same}
+use Rattle.gap_files.specs.Marks.{Mark, appends, streams, DidLess}
+use Rattle.gap_files.specs.Steps.{Step, Closes}
+use Rattle.gap_files.specs.declared.halt.Halt.{Halt}
+use Rattle.gap_files.specs.declared.halt.Halt.TheVariants.{OutOfMemory}
+use Rattle.gap_files.proofs.MarkLaws.{did_none, length-appends}
+use Rattle.gap_files.proofs.StepLaws.{gives_up_at_once, step_same}
 use Rattle.gap_sweep.specs.Texts.{head_bytes}
 
 -- what a writer has behind the head

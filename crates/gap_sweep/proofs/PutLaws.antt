@@ -8,15 +8,15 @@ use Rattle.gap_cert.specs.Certificates.{CertSection}
 use Rattle.gap_model.specs.declared.front.FrontRow.{FrontRow}
 use Rattle.gap_model.specs.declared.outcome.Best.{Best}
 use Rattle.gap_model.specs.declared.outcome.Outcome.{Outcome}
-use Rattle.gap_sections.specs.Filled.{section_bytes}
+use Rattle.gap_writer.specs.Filled.{section_bytes}
 use Rattle.gap_solved.specs.Solveds.{SolvedValue}
 use Rattle.gap_solve.specs.Ends.{best_in}
 use Rattle.gap_solve.specs.Solving.{IsSolved}
-use Rattle.gap_trace.specs.Marks.{Mark, appends, prints}
-use Rattle.gap_trace.specs.Drains.{Breaks, Fills}
-use Rattle.gap_trace.specs.Steps.{Step}
-use Rattle.gap_trace.specs.declared.halt.Halt.{Halt}
-use Rattle.gap_trace.proofs.StepLaws.{then_step, stops_early}
+use Rattle.gap_files.specs.Marks.{Mark, appends, prints}
+use Rattle.gap_files.specs.Drains.{Breaks, Fills}
+use Rattle.gap_files.specs.Steps.{Step}
+use Rattle.gap_files.specs.declared.halt.Halt.{Halt}
+use Rattle.gap_files.proofs.StepLaws.{then_step, stops_early}
 use Rattle.gap_sweep.specs.declared.carried.Carried.{Carried}
 use Rattle.gap_sweep.specs.Asked.{lots_of}
 use Rattle.gap_sweep.specs.Texts.{weight_text, portfolio_text, own_number, own_row}

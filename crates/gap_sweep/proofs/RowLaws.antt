@@ -11,11 +11,11 @@ use Rattle.gap_files.specs.Outside.{FilesNow, SinkNow}
 use Rattle.gap_model.specs.declared.front.FrontRow.{FrontRow}
 use Rattle.gap_model.specs.Fronts.{Dominates, IsEfficient}
 use Rattle.gap_report.specs.Report.{front_line}
-use Rattle.gap_trace.specs.Marks.{Mark, prints}
-use Rattle.gap_trace.specs.Steps.{Step}
-use Rattle.gap_trace.specs.declared.halt.Halt.{Halt}
-use Rattle.gap_trace.proofs.MarkLaws.{prints-append, prints-none}
-use Rattle.gap_trace.proofs.StepLaws.{then_step, stops_early, step_none, step_same}
+use Rattle.gap_files.specs.Marks.{Mark, prints}
+use Rattle.gap_files.specs.Steps.{Step}
+use Rattle.gap_files.specs.declared.halt.Halt.{Halt}
+use Rattle.gap_files.proofs.MarkLaws.{prints-append, prints-none}
+use Rattle.gap_files.proofs.StepLaws.{then_step, stops_early, step_none, step_same}
 use Rattle.gap_sweep.specs.Texts.{front_text, is_efficient, dominates}
 
 front_next : (lots : ℕ) (all : List FrontRow) (numbers : List ℕ) (rows : List FrontRow) (k : ℕ) (row : FrontRow) → k < length numbers → k < length rows

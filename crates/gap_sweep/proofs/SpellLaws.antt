@@ -10,15 +10,15 @@ use Rattle.gap_cert.specs.declared.field.Field.{Field}
 use Rattle.gap_cert.specs.declared.field.Field.TheVariants as field
 use Rattle.gap_cert.specs.Fields.{bytes_of}
 use Rattle.gap_cert.specs.Certificates.{CertSection, head_fields, section_fields, sections_fields, fields_of, last_behind, spelled, spelling, Certificate}
-use Rattle.gap_head.specs.HeadOf.{head_of}
-use Rattle.gap_sections.specs.Filled.{section_bytes}
+use Rattle.gap_valid.specs.HeadOf.{head_of}
+use Rattle.gap_writer.specs.Filled.{section_bytes}
 use Rattle.gap_writer.specs.Writing.{last_of, end_bytes}
 use Rattle.gap_writer.proofs.ItemLaws.{spelled_behind, end_some}
 use Rattle.gap_solve.specs.Ends.{best_in}
-use Rattle.gap_trace.specs.Marks.{Mark, to_file, to_sink, appends, prints, filed, Streams, stream, streams, started, Did, DidFront, DidLess}
-use Rattle.gap_trace.specs.declared.halt.Halt.{Halt}
-use Rattle.gap_trace.specs.Steps.{IsUnstarted}
-use Rattle.gap_trace.proofs.MarkLaws.{filed-append, filed-appends, filed-prints, length-appends, last_filed}
+use Rattle.gap_files.specs.Marks.{Mark, to_file, to_sink, appends, prints, filed, Streams, stream, streams, started, Did, DidFront, DidLess}
+use Rattle.gap_files.specs.declared.halt.Halt.{Halt}
+use Rattle.gap_files.specs.Steps.{IsUnstarted}
+use Rattle.gap_files.proofs.MarkLaws.{filed-append, filed-appends, filed-prints, length-appends, last_filed}
 use Rattle.gap_sweep.specs.Asked.{Asked, Done}
 use Rattle.gap_sweep.specs.Texts.{head_bytes, market_text, weight_text, portfolio_text, frontier_text}
 use Rattle.gap_sweep.specs.Traces.{opening_trace, weight_trace, weights_trace, closing_trace, begun_trace, whole_trace}

@@ -5,13 +5,13 @@ use Rattle.std.proofs.lemmas.Option.{none-some, same_Some}
 use Rattle.gap_files.specs.Outside.{FilesNow, SinkNow, bytes_of}
 use Rattle.gap_instance.specs.Instances.{InstanceValue}
 use Rattle.gap_psd.specs.Shifts.{ShiftValue}
-use Rattle.gap_trace.specs.Marks.{Mark, appends, prints, filed, printed, Streams, stream, streams, started, Did, DidFront, DidLess}
-use Rattle.gap_trace.specs.Steps.{Step, Keeps, HasCause, IsUnstarted, Opens, Closes}
-use Rattle.gap_trace.specs.declared.halt.Halt.{Halt}
-use Rattle.gap_trace.specs.declared.halt.Halt.TheVariants.{OutOfMemory}
+use Rattle.gap_files.specs.Marks.{Mark, appends, prints, filed, printed, Streams, stream, streams, started, Did, DidFront, DidLess}
+use Rattle.gap_files.specs.Steps.{Step, Keeps, HasCause, IsUnstarted, Opens, Closes}
+use Rattle.gap_files.specs.declared.halt.Halt.{Halt}
+use Rattle.gap_files.specs.declared.halt.Halt.TheVariants.{OutOfMemory}
 use Rattle.gap_writer.specs.Writing.{end_bytes}
-use Rattle.gap_trace.proofs.MarkLaws.{did_none, did_both, front_of_more, front_behind, less_of_front, less_behind, length-appends, appends_some}
-use Rattle.gap_trace.proofs.StepLaws.{keeps_both, cause_later, then_step, stops_early, gives_up_at_once, step_front}
+use Rattle.gap_files.proofs.MarkLaws.{did_none, did_both, front_of_more, front_behind, less_of_front, less_behind, length-appends, appends_some}
+use Rattle.gap_files.proofs.StepLaws.{keeps_both, cause_later, then_step, stops_early, gives_up_at_once, step_front}
 use Rattle.gap_sweep.specs.declared.style.Style.{Style}
 use Rattle.gap_sweep.specs.declared.carried.Carried.{Carried}
 use Rattle.gap_sweep.specs.Asked.{Asked, Done, IsShiftOf}

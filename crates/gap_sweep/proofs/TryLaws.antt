@@ -13,11 +13,11 @@ use Rattle.gap_cert.specs.Certificates.{CertSection}
 use Rattle.gap_solved.specs.Solveds.{SolvedValue, IsSectionOf}
 use Rattle.gap_solve.specs.Ends.{best_in}
 use Rattle.gap_solve.specs.Solving.{IsSolved}
-use Rattle.gap_trace.specs.Marks.{Mark}
-use Rattle.gap_trace.specs.Steps.{Step}
-use Rattle.gap_trace.specs.declared.halt.Halt.{Halt}
-use Rattle.gap_trace.specs.declared.halt.Halt.TheVariants.{OutOfMemory}
-use Rattle.gap_trace.proofs.StepLaws.{then_step, stops_early, gives_up, gives_up_at_once, step_none, step_same}
+use Rattle.gap_files.specs.Marks.{Mark}
+use Rattle.gap_files.specs.Steps.{Step}
+use Rattle.gap_files.specs.declared.halt.Halt.{Halt}
+use Rattle.gap_files.specs.declared.halt.Halt.TheVariants.{OutOfMemory}
+use Rattle.gap_files.proofs.StepLaws.{then_step, stops_early, gives_up, gives_up_at_once, step_none, step_same}
 use Rattle.gap_sweep.specs.declared.carried.Carried.{Carried}
 use Rattle.gap_sweep.specs.Asked.{Done, lots_of, portfolio, warm_behind, IsDone, AreDone}
 use Rattle.gap_sweep.specs.Texts.{own_row, own_number, front_rows, front_numbers}

@@ -5,8 +5,8 @@ use Rattle.gap_instance.specs.Instances.{InstanceValue, IsInstance}
 use Rattle.gap_psd.specs.Shifts.{ShiftValue}
 use Rattle.gap_cert.specs.declared.field.Version.TheVariants.{Two}
 use Rattle.gap_cert.specs.Certificates.{CertSection, Certificate, spelling}
-use Rattle.gap_head.specs.Said.{IsSaid}
-use Rattle.gap_head.specs.HeadOf.{head_of}
+use Rattle.gap_valid.specs.Said.{IsSaid}
+use Rattle.gap_valid.specs.HeadOf.{head_of}
 use Rattle.gap_sweep.specs.Asked.{Asked, Done}
 use Rattle.gap_sweep.specs.Runs.{HasDone}
 

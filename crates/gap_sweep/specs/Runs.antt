@@ -3,9 +3,9 @@
 use Rattle.std.specs.Prelude.{◌≡◌, ℕ, List, length, Option, None, Result, Ok, Err, IsOk}
 use Rattle.gap_files.specs.Outside.{FilesNow, SinkNow}
 use Rattle.gap_psd.specs.Shifts.{ShiftValue}
-use Rattle.gap_trace.specs.Marks.{Streams, streams, started, Did, DidFront, DidLess}
-use Rattle.gap_trace.specs.Steps.{HasCause, Keeps, IsUnstarted}
-use Rattle.gap_trace.specs.declared.halt.Halt.{Halt}
+use Rattle.gap_files.specs.Marks.{Streams, streams, started, Did, DidFront, DidLess}
+use Rattle.gap_files.specs.Steps.{HasCause, Keeps, IsUnstarted}
+use Rattle.gap_files.specs.declared.halt.Halt.{Halt}
 use Rattle.gap_sweep.specs.Asked.{Asked, Done, IsShiftOf, AreDone}
 use Rattle.gap_sweep.specs.Traces.{begun_trace, whole_trace}
 

@@ -5,9 +5,9 @@ use Rattle.gap_base.specs.declared.weight.Weight.{Weight}
 use Rattle.gap_files.specs.Outside.{FilesNow, SinkNow}
 use Rattle.gap_instance.specs.Instances.{InstanceValue}
 use Rattle.gap_psd.specs.Shifts.{ShiftValue}
-use Rattle.gap_trace.specs.Marks.{Mark, streams, DidLess}
-use Rattle.gap_trace.specs.Steps.{Step, HasCause, Keeps}
-use Rattle.gap_trace.specs.declared.halt.Halt.{Halt}
+use Rattle.gap_files.specs.Marks.{Mark, streams, DidLess}
+use Rattle.gap_files.specs.Steps.{Step, HasCause, Keeps}
+use Rattle.gap_files.specs.declared.halt.Halt.{Halt}
 use Rattle.gap_sweep.specs.declared.carried.Carried.{Carried}
 use Rattle.gap_sweep.specs.Asked.{Asked, Done, AreDone, warm_behind}
 use Rattle.gap_sweep.specs.Texts.{front_rows, front_numbers}

@@ -13,7 +13,7 @@ use Rattle.gap_model.specs.Nodes.{splits_of}
 use Rattle.gap_cert.specs.declared.field.Version.TheVariants.{Two}
 use Rattle.gap_cert.specs.declared.field.Field.TheVariants as field
 use Rattle.gap_cert.specs.Certificates.{head_fields, spelled}
-use Rattle.gap_head.specs.HeadOf.{head_of}
+use Rattle.gap_valid.specs.HeadOf.{head_of}
 use Rattle.gap_report.specs.Report.{market_line, weight_line, lots_line, front_line}
 use Rattle.gap_solved.specs.Solveds.{SolvedValue}
 use Rattle.gap_solve.specs.Ends.{best_in}

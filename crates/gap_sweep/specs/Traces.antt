@@ -3,9 +3,9 @@
 use Rattle.std.specs.Prelude.{ℕ, List, [], ◌∷◌, ◌++◌, length}
 use Rattle.gap_instance.specs.Instances.{InstanceValue}
 use Rattle.gap_psd.specs.Shifts.{ShiftValue}
-use Rattle.gap_sections.specs.Filled.{section_bytes}
+use Rattle.gap_writer.specs.Filled.{section_bytes}
 use Rattle.gap_solve.specs.Ends.{best_in}
-use Rattle.gap_trace.specs.Marks.{Mark, appends, prints}
+use Rattle.gap_files.specs.Marks.{Mark, appends, prints}
 use Rattle.gap_writer.specs.Writing.{end_bytes}
 use Rattle.gap_sweep.specs.declared.style.Style.{Style}
 use Rattle.gap_sweep.specs.Asked.{Asked, Done}

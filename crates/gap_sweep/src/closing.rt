@@ -1,8 +1,8 @@
 //! What comes behind the weights.
 ghost use Rattle.std.specs.Prelude.{◌≡◌, ℕ, List, length};
 ghost use Rattle.gap_files.specs.Outside.{FilesNow};
-ghost use Rattle.gap_trace.specs.Marks.{prints};
-ghost use Rattle.gap_trace.specs.Steps.{Step, Closes};
+ghost use Rattle.gap_files.specs.Marks.{prints};
+ghost use Rattle.gap_files.specs.Steps.{Step, Closes};
 ghost use Rattle.gap_sweep.specs.Asked.{Done};
 ghost use Rattle.gap_sweep.specs.Steps.{IsCarried};
 ghost use Rattle.gap_sweep.specs.Texts.{frontier_text};
@@ -12,9 +12,8 @@ use crate::Style;
 use crate::carried::Carried;
 use crate::parts::append_end;
 use crate::rows::print_rows;
-use gap_files::{Files, Sink};
+use gap_files::{Files, Halt, Sink};
 use gap_instance::Instance;
-use gap_trace::Halt;
 use std::alloc::Global;
 
 /// Writes the lines of the frontier, where they come.

@@ -20,9 +20,8 @@ pub use crate::laws::{frontier_is_monotone, rows_are_ranked, stops_leave_fronts,
 pub use crate::style::Style;
 use crate::sweep::{go_on, shift_of};
 use gap_base::Weights;
-use gap_files::{Files, Sink};
+use gap_files::{Files, Halt, Sink, start};
 use gap_instance::Instance;
-use gap_trace::{Halt, start};
 use std::alloc::Global;
 
 /// Solves the weights of a job in their order, over an instance as a certificate's head says it, and puts out what is known

@@ -1,19 +1,18 @@
 //! What comes before the weights.
 ghost use Rattle.std.specs.Prelude.{◌≡◌, ℕ, List};
 ghost use Rattle.gap_files.specs.Outside.{FilesNow};
-ghost use Rattle.gap_trace.specs.Marks.{prints};
-ghost use Rattle.gap_trace.specs.Steps.{Step};
+ghost use Rattle.gap_files.specs.Marks.{prints};
+ghost use Rattle.gap_files.specs.Steps.{Step};
 ghost use Rattle.gap_sweep.specs.Texts.{market_text};
 ghost use Rattle.gap_sweep.specs.Traces.{opening_trace};
 
 use crate::Style;
 use crate::parts::append_head;
 use gap_base::Weights;
-use gap_files::{Files, Sink};
+use gap_files::{Files, Halt, Sink, print};
 use gap_instance::Instance;
 use gap_psd::Shift;
 use gap_report::market_line;
-use gap_trace::{Halt, print};
 use std::alloc::Global;
 
 /// Writes the line of the market, where it comes.

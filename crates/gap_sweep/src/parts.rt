@@ -1,15 +1,14 @@
 //! The parts of a certificate, appended to its file.
 ghost use Rattle.std.specs.Prelude.{◌≡◌};
 ghost use Rattle.gap_files.specs.Outside.{SinkNow};
-ghost use Rattle.gap_trace.specs.Marks.{appends};
-ghost use Rattle.gap_trace.specs.Steps.{Step, Closes};
+ghost use Rattle.gap_files.specs.Marks.{appends};
+ghost use Rattle.gap_files.specs.Steps.{Step, Closes};
 ghost use Rattle.gap_writer.specs.Writing.{end_bytes};
 ghost use Rattle.gap_sweep.specs.Texts.{head_bytes};
 
-use gap_files::Files;
+use gap_files::{Files, Halt, append};
 use gap_instance::Instance;
 use gap_psd::Shift;
-use gap_trace::{Halt, append};
 use gap_writer::Writer;
 use std::alloc::Global;
 

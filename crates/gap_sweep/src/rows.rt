@@ -1,16 +1,15 @@
 //! The lines of the frontier.
 ghost use Rattle.std.specs.Prelude.{◌≡◌, ◌<◌, ℕ, List, length, slice_index, slice_get, Some};
 ghost use Rattle.gap_files.specs.Outside.{FilesNow};
-ghost use Rattle.gap_trace.specs.Marks.{prints};
-ghost use Rattle.gap_trace.specs.Steps.{Step};
+ghost use Rattle.gap_files.specs.Marks.{prints};
+ghost use Rattle.gap_files.specs.Steps.{Step};
 ghost use Rattle.gap_report.specs.Report.{front_line};
 ghost use Rattle.gap_sweep.specs.Texts.{front_text, is_efficient};
 
 use crate::carried::Carried;
-use gap_files::Sink;
+use gap_files::{Halt, Sink, print};
 use gap_model::{FrontRow, efficient};
 use gap_report::front_line;
-use gap_trace::{Halt, print};
 use std::alloc::Global;
 
 /// Writes the line of a row.

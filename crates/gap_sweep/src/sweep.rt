@@ -10,10 +10,9 @@ use crate::opening::open;
 use crate::weights::try_weights;
 use gap_base::{OutOfMemory, Weights};
 use gap_factor::factor;
-use gap_files::{Files, Sink};
+use gap_files::{Files, Halt, Sink};
 use gap_instance::Instance;
 use gap_psd::Shift;
-use gap_trace::Halt;
 use std::alloc::Global;
 
 /// The shift of an instance.

@@ -9,8 +9,8 @@ ghost use Rattle.gap_psd.specs.Shifts.{IsDominantShift};
 ghost use Rattle.gap_valid.specs.Valid.{IsWeight};
 ghost use Rattle.gap_solve.specs.Ends.{best_in};
 ghost use Rattle.gap_solved.specs.Solveds.{IsSectionOf};
-ghost use Rattle.gap_trace.specs.Marks.{prints};
-ghost use Rattle.gap_trace.specs.Steps.{Step};
+ghost use Rattle.gap_files.specs.Marks.{prints};
+ghost use Rattle.gap_files.specs.Steps.{Step};
 ghost use Rattle.gap_sweep.specs.Asked.{AreWeights};
 ghost use Rattle.gap_sweep.specs.Steps.{Tries, Sweeps, IsCarried};
 ghost use Rattle.gap_sweep.specs.Texts.{weight_text, portfolio_text};
@@ -20,15 +20,14 @@ use crate::carried::Carried;
 use crate::found::found;
 use bumpalo::Bump;
 use gap_base::{Weight, Weights};
-use gap_files::{Files, Sink};
+use gap_files::{Files, Halt, Sink, print};
 use gap_instance::Instance;
 use gap_model::Outcome;
 use gap_psd::Shift;
 use gap_report::{lots_line, weight_line};
-use gap_sections::write_section;
 use gap_solve::solve_one;
 use gap_solved::Solved;
-use gap_trace::{Halt, print};
+use gap_writer::write_section;
 use std::alloc::Global;
 
 /// Writes the line of a weight.

@@ -1,7 +1,7 @@
 //! A market said anew.
 
 use gap_base::Market;
-use gap_head::said_anew;
+use gap_valid::said_anew;
 use std::test::Fail;
 
 #[test]

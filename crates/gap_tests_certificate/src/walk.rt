@@ -4,7 +4,7 @@ ghost use Rattle.std.specs.Prelude.{◌≡◌};
 
 use gap_base::{Lots, OutOfMemory};
 use gap_box::{Cell, Part, Split};
-use gap_walk::Walk;
+use gap_judge::Walk;
 use std::test::Fail;
 
 /// Splits the next node, where that is lawful.

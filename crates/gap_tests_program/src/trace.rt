@@ -1,5 +1,4 @@
-use gap_files::{MemoryFiles, MemorySink};
-use gap_trace::{Halt, append, print, start};
+use gap_files::{Halt, MemoryFiles, MemorySink, append, print, start};
 use std::test::Fail;
 
 /// What is answered to a start of A.

@@ -5,8 +5,7 @@ ghost use Rattle.std.specs.Prelude.{◌≡◌, None, replicate};
 use crate::barren::{Barren, opened};
 use gap_base::Lots;
 use gap_box::{NodeId, Split};
-use gap_model::{Entry, Leaf, Outcome, Shown};
-use gap_placed::Placed;
+use gap_model::{Entry, Leaf, Outcome, Placed, Shown};
 use gap_search::Search;
 use std::test::Fail;
 

@@ -6,9 +6,8 @@ ghost use Rattle.gap_search.specs.Boards.{FitsPart, tickets};
 
 use gap_base::OutOfMemory;
 use gap_box::{Part, Side};
-use gap_drive::{Guide, drive};
 use gap_model::{Entry, Leaf, NodeBound, Outcome, Shown};
-use gap_search::Search;
+use gap_search::{Guide, Search, drive};
 use gap_trials::{Listing, Small, all_points, leaf_for};
 use std::alloc::Global;
 use std::test::Fail;

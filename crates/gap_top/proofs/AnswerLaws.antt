@@ -31,9 +31,9 @@ use Rattle.gap_upgrade.specs.declared.stop.Stop.{Stop as UpgradeStop}
 use Rattle.gap_upgrade.specs.declared.stop.Stop.TheVariants as renewal
 use Rattle.gap_sweep.specs.declared.style.Style.TheVariants.{Whole, Single}
 use Rattle.gap_sweep.specs.Asked.{Asked}
-use Rattle.gap_trace.specs.declared.halt.Halt.{Halt as Stopped}
-use Rattle.gap_trace.specs.declared.halt.Halt.TheVariants as trace
-use Rattle.gap_trace.specs.Steps.{HasCause}
+use Rattle.gap_files.specs.declared.halt.Halt.{Halt as Stopped}
+use Rattle.gap_files.specs.declared.halt.Halt.TheVariants as trace
+use Rattle.gap_files.specs.Steps.{HasCause}
 use Rattle.gap_top.specs.declared.stop.Stop.{Stop}
 use Rattle.gap_top.specs.declared.stop.Stop.TheVariants.{Refused, ReadFault, WriteFault, OutOfMemory}
 

@@ -5,9 +5,9 @@ use Rattle.gap_base.specs.declared.weight.Weight.{Weight}
 use Rattle.gap_base.specs.Markets.{MarketValue}
 use Rattle.gap_cert.specs.declared.field.Version.TheVariants.{Two}
 use Rattle.gap_cert.specs.Certificates.{CertSection, spelling}
-use Rattle.gap_head.specs.HeadOf.{head_of, AreRanged}
-use Rattle.gap_head.specs.Said.{said_market}
-use Rattle.gap_head.proofs.HeadOfLaws.{said_stands, nodes_stand, diagonal_stands}
+use Rattle.gap_valid.specs.HeadOf.{head_of, AreRanged}
+use Rattle.gap_valid.specs.Said.{said_market}
+use Rattle.gap_valid.proofs.HeadOfLaws.{said_stands, nodes_stand, diagonal_stands}
 use Rattle.gap_instance.specs.Instances.{InstanceValue, instance_of}
 use Rattle.gap_model.specs.declared.outcome.Told.{Told}
 use Rattle.gap_psd.specs.Shifts.{ShiftValue}
@@ -21,8 +21,8 @@ use Rattle.gap_sweep.specs.Texts.{head_bytes}
 use Rattle.gap_sweep.specs.Traces.{begun_trace}
 use Rattle.gap_sweep.proofs.DoneLaws.{done_within}
 use Rattle.gap_sweep.proofs.SpellLaws.{filed_begun}
-use Rattle.gap_trace.specs.Marks.{Mark, filed}
-use Rattle.gap_trace.proofs.MarkLaws.{filed-append}
+use Rattle.gap_files.specs.Marks.{Mark, filed}
+use Rattle.gap_files.proofs.MarkLaws.{filed-append}
 use Rattle.gap_sweep.proofs.CertLaws.{ranged, sections_valid, certificate_valid, certificate_encoded}
 use Rattle.gap_valid.specs.Valid.{IsValidSection, IsWeight}
 use Rattle.gap_valid.specs.Verdicts.{told_in}

@@ -7,9 +7,9 @@ use Rattle.gap_base.specs.declared.job.Job.{Job}
 use Rattle.gap_base.specs.declared.weight.Weight.{Weight}
 use Rattle.gap_base.specs.Markets.{MarketValue}
 use Rattle.gap_cert.specs.Certificates.{CertClaim, claim_of}
-use Rattle.gap_head.specs.Said.{said_market}
-use Rattle.gap_head.proofs.SaidLaws.{said_made, told_said, neighbours_said, meets_said}
-use Rattle.gap_head.proofs.OrderLaws.{orders_said}
+use Rattle.gap_valid.specs.Said.{said_market}
+use Rattle.gap_valid.proofs.SaidLaws.{said_made, told_said, neighbours_said, meets_said}
+use Rattle.gap_valid.proofs.OrderLaws.{orders_said}
 use Rattle.gap_instance.specs.Instances.{InstanceValue, IsInstance, instance_of}
 use Rattle.gap_instance.specs.Limits.{MeetsLimits}
 use Rattle.gap_instance.specs.Neighbours.{HasNoBetterNeighbour}
@@ -21,7 +21,7 @@ use Rattle.gap_model.specs.declared.outcome.Outcome.TheVariants.{Closed, NoPortf
 use Rattle.gap_model.specs.Outcomes.{IsRight, IsToldRight}
 use Rattle.gap_psd.specs.Shifts.{ShiftValue}
 use Rattle.gap_search.specs.Boards.{BestAtMost}
-use Rattle.gap_shown.proofs.TreeLaws.{cert_splits_of, splits_counted}
+use Rattle.gap_solve.proofs.TreeLaws.{cert_splits_of, splits_counted}
 use Rattle.gap_solve.specs.Ends.{best_in, bound_in, eighths_in, HasFloor}
 use Rattle.gap_solve.specs.Solving.{IsSolved}
 use Rattle.gap_solved.specs.Solveds.{IsSectionOf}

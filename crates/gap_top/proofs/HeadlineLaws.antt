@@ -5,7 +5,7 @@ use Rattle.std.proofs.lemmas.Bool.Decides.{nat_tests}
 use Rattle.gap_base.specs.declared.job.Job.{Job}
 use Rattle.gap_base.specs.Markets.{MarketValue}
 use Rattle.gap_files.specs.Outside.{FilesNow, SinkNow, SameEverywhere, bytes_of}
-use Rattle.gap_head.specs.Said.{said_market}
+use Rattle.gap_valid.specs.Said.{said_market}
 use Rattle.gap_instance.specs.Instances.{instance_of}
 use Rattle.gap_job.specs.Jobs.{job_in}
 use Rattle.gap_job.specs.declared.fault.JobFault.{JobFault}
@@ -25,11 +25,11 @@ use Rattle.gap_sweep.specs.Texts.{frontier_text}
 use Rattle.gap_sweep.specs.Traces.{begun_trace, whole_trace}
 use Rattle.gap_sweep.proofs.SpellLaws.{spelled_all, file_is, front_proper, less_proper, no_more}
 use Rattle.gap_tangent.specs.Bounds.{setting_with}
-use Rattle.gap_trace.specs.Marks.{filed, stream, streams, started}
-use Rattle.gap_trace.specs.Steps.{IsUnstarted}
-use Rattle.gap_trace.specs.declared.halt.Halt.{Halt}
-use Rattle.gap_trace.specs.declared.halt.Halt.TheVariants as halt
-use Rattle.gap_trace.proofs.MarkLaws.{front_of_less}
+use Rattle.gap_files.specs.Marks.{filed, stream, streams, started}
+use Rattle.gap_files.specs.Steps.{IsUnstarted}
+use Rattle.gap_files.specs.declared.halt.Halt.{Halt}
+use Rattle.gap_files.specs.declared.halt.Halt.TheVariants as halt
+use Rattle.gap_files.proofs.MarkLaws.{front_of_less}
 use Rattle.gap_words.specs.Forms.{FormValue, faulty, quick, solve, check, verify, demo, upgrade}
 use Rattle.gap_words.specs.Names.{reads}
 use Rattle.gap_words.specs.Refusals.{refusal_status}

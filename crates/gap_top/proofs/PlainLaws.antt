@@ -5,7 +5,7 @@ use Rattle.std.proofs.lemmas.List.FromFn.{get_or-range_with_len, length-range_wi
 use Rattle.std.proofs.Math.Nat.{le_of_mul-le-mul_left}
 use Rattle.gap_base.specs.declared.job.Job.{Job}
 use Rattle.gap_base.specs.Markets.{MarketValue}
-use Rattle.gap_head.specs.Said.{said_market}
+use Rattle.gap_valid.specs.Said.{said_market}
 use Rattle.gap_instance.specs.declared.order.By.TheVariants.{Least}
 use Rattle.gap_instance.specs.Instances.{InstanceValue, IsInstance, instance_of}
 use Rattle.gap_instance.specs.Orders.{CanBeHeld, StandsBefore, number_of, IsOrder, SomeOrderGives}

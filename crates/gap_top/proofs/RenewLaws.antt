@@ -7,8 +7,8 @@ use Rattle.gap_files.specs.Outside.{FilesNow, SinkNow, SameEverywhere, bytes_of}
 use Rattle.gap_rule.specs.Names.{AreTold, held, told_bytes}
 use Rattle.gap_rule.specs.Rules.{Rules}
 use Rattle.gap_rule.specs.declared.task.Task.{Task}
-use Rattle.gap_trace.specs.Marks.{stream}
-use Rattle.gap_trace.specs.Steps.{IsUnstarted}
+use Rattle.gap_files.specs.Marks.{stream}
+use Rattle.gap_files.specs.Steps.{IsUnstarted}
 use Rattle.gap_upgrade.specs.Upgrading.{Upgrades, HoldsUpgrade, HoldsFront}
 use Rattle.gap_upgrade.specs.declared.stop.Stop.{Stop as UpgradeStop}
 use Rattle.gap_upgrade.specs.declared.stop.Stop.TheVariants as renewal

@@ -4,23 +4,23 @@ use Rattle.gap_base.specs.declared.job.Job.{Job}
 use Rattle.gap_base.specs.declared.weight.Weight.{Weight}
 use Rattle.gap_base.specs.Markets.{MarketValue}
 use Rattle.gap_files.specs.Outside.{SinkNow}
-use Rattle.gap_head.specs.Said.{said_market}
-use Rattle.gap_head.proofs.SaidLaws.{risk_said, return_said}
+use Rattle.gap_valid.specs.Said.{said_market}
+use Rattle.gap_valid.proofs.SaidLaws.{risk_said, return_said}
 use Rattle.gap_instance.specs.Instances.{InstanceValue, instance_of}
 use Rattle.gap_instance.specs.Objective.{risk_of, return_of}
 use Rattle.gap_model.specs.declared.front.FrontRow.{FrontRow}
 use Rattle.gap_model.specs.declared.outcome.Best.{Best}
 use Rattle.gap_psd.specs.Shifts.{ShiftValue, total_of}
 use Rattle.gap_report.specs.Report.{market_line}
-use Rattle.gap_sections.specs.Filled.{section_bytes}
+use Rattle.gap_writer.specs.Filled.{section_bytes}
 use Rattle.gap_solve.specs.Ends.{best_in}
 use Rattle.gap_sweep.specs.declared.style.Style.{Style}
 use Rattle.gap_sweep.specs.declared.style.Style.TheVariants.{Whole, Single}
 use Rattle.gap_sweep.specs.Asked.{Asked, Done}
 use Rattle.gap_sweep.specs.Texts.{head_bytes, market_text, weight_text, portfolio_text, own_row, front_rows, front_numbers, front_text, frontier_text}
 use Rattle.gap_sweep.specs.Traces.{opening_trace, weight_trace, weights_trace, closing_trace, begun_trace, whole_trace}
-use Rattle.gap_trace.specs.Marks.{Mark, appends, prints, printed, Streams, Did, DidFront}
-use Rattle.gap_trace.proofs.MarkLaws.{printed-append, printed-appends, printed-prints}
+use Rattle.gap_files.specs.Marks.{Mark, appends, prints, printed, Streams, Did, DidFront}
+use Rattle.gap_files.proofs.MarkLaws.{printed-append, printed-appends, printed-prints}
 use Rattle.gap_writer.specs.Writing.{end_bytes}
 use Rattle.gap_top.specs.Reporting.{weights_text, report, IsReported}
 

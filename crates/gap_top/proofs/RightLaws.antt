@@ -7,8 +7,8 @@ use Rattle.gap_base.specs.declared.weight.Weight.{Weight}
 use Rattle.gap_instance.specs.Instances.{InstanceValue, instance_of}
 use Rattle.gap_model.specs.Outcomes.{IsToldRight, IsRight}
 use Rattle.gap_psd.specs.Shifts.{ShiftValue}
-use Rattle.gap_head.specs.Said.{said_market, said_instance}
-use Rattle.gap_head.proofs.SaidLaws.{told_said, said_made}
+use Rattle.gap_valid.specs.Said.{said_market, said_instance}
+use Rattle.gap_valid.proofs.SaidLaws.{told_said, said_made}
 use Rattle.gap_rule.specs.Tasks.{work_of}
 use Rattle.gap_sweep.specs.Asked.{Done, IsDone, AreDone, portfolio}
 use Rattle.gap_sweep.specs.Runs.{HasDone}

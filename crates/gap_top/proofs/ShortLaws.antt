@@ -22,7 +22,7 @@ use Rattle.gap_check.specs.Histories.{Judged}
 use Rattle.gap_check.proofs.Complete.{Judges, head_judges}
 use Rattle.gap_check.proofs.Faulty.{fault_apart}
 use Rattle.gap_check.proofs.Follows.{follow, gives}
-use Rattle.gap_encode.specs.Writable.{IsWritable, IsWritableSection}
+use Rattle.gap_valid.specs.Writable.{IsWritable, IsWritableSection}
 use Rattle.gap_judge.specs.Faults.{IsItemRight, IsItemFault, IsDominantHead}
 use Rattle.gap_judge.specs.Progress.{Progress, fresh_progress, progress_behind}
 use Rattle.gap_scan.specs.Scans.{Scan, Scanned, fed_more, next_of}
@@ -35,9 +35,9 @@ use Rattle.gap_check.specs.Histories.{IsFaultIn, IsFaultOf}
 use Rattle.gap_check.proofs.AcceptLaws.{faultless}
 use Rattle.gap_check.proofs.HistoryLaws.{fault_stays}
 use Rattle.gap_check.proofs.OnceLaws.{accepted_bytes}
-use Rattle.gap_encode.proofs.Heads.{encodes, no_front}
-use Rattle.gap_encode.proofs.Validity.{writable}
-use Rattle.gap_head.specs.HeadOf.{head_of}
+use Rattle.gap_valid.proofs.Heads.{encodes, no_front}
+use Rattle.gap_valid.proofs.Validity.{writable}
+use Rattle.gap_valid.specs.HeadOf.{head_of}
 use Rattle.gap_model.specs.declared.cert_fault.CertFault.{CertFault}
 use Rattle.gap_model.specs.declared.cert_fault.CertKind.TheVariants.{Short}
 use Rattle.gap_psd.specs.Shifts.{ShiftValue}

@@ -6,8 +6,8 @@ use Rattle.gap_base.specs.Markets.{MarketValue}
 use Rattle.gap_check.specs.Accepting.{Accepted}
 use Rattle.gap_check.proofs.AcceptLaws.{bounds}
 use Rattle.gap_files.specs.Outside.{FilesNow, SinkNow}
-use Rattle.gap_head.specs.Said.{said_instance}
-use Rattle.gap_head.proofs.SaidLaws.{told_said, said_made}
+use Rattle.gap_valid.specs.Said.{said_instance}
+use Rattle.gap_valid.proofs.SaidLaws.{told_said, said_made}
 use Rattle.gap_instance.specs.Instances.{InstanceValue, instance_of}
 use Rattle.gap_job.specs.Jobs.{job_in}
 use Rattle.gap_job.specs.declared.fault.JobFault.{JobFault}
@@ -24,7 +24,7 @@ use Rattle.gap_rule.specs.Steps.{CanBeDone}
 use Rattle.gap_rule.specs.declared.task.Task.{Task}
 use Rattle.gap_rule.specs.declared.task.Task.TheVariants.{Check, Verify, Upgrade}
 use Rattle.gap_top.specs.Printing.{Prints}
-use Rattle.gap_tell.specs.Telling.{verdict_report}
+use Rattle.gap_check.specs.Telling.{verdict_report}
 use Rattle.gap_top.specs.Telling.{Tells, IsChecked, IsVerified}
 use Rattle.gap_top.specs.Working.{Does}
 use Rattle.gap_top.specs.declared.stop.Stop.{Stop}

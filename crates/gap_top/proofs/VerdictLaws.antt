@@ -12,7 +12,7 @@ use Rattle.gap_rule.specs.Names.{AreTold, held}
 use Rattle.gap_rule.specs.Rules.{Rules, After, RulesClaim, RulesPair, RulesClaimed, refused_as}
 use Rattle.gap_rule.specs.declared.task.Task.{Task}
 use Rattle.gap_rule.specs.declared.task.Task.TheVariants.{Quick, Solve, Demo, Check, Verify, Upgrade}
-use Rattle.gap_tell.specs.Telling.{verdict_report}
+use Rattle.gap_check.specs.Telling.{verdict_report}
 use Rattle.gap_valid.specs.Verdicts.{VerdictValue}
 use Rattle.gap_words.specs.Forms.{FormValue, check, verify}
 use Rattle.gap_words.specs.declared.refusal.Refusal.{Refusal}

@@ -15,7 +15,7 @@ use Rattle.gap_sweep.specs.declared.style.Style.{Style}
 use Rattle.gap_sweep.specs.declared.style.Style.TheVariants.{Whole, Single}
 use Rattle.gap_sweep.specs.Asked.{Asked, Done}
 use Rattle.gap_tangent.specs.Bounds.{setting_with}
-use Rattle.gap_trace.specs.Marks.{stream}
+use Rattle.gap_files.specs.Marks.{stream}
 use Rattle.gap_words.specs.Forms.{FormValue, quick, solve, demo}
 use Rattle.gap_top.specs.Working.{cert_in, asked_for}
 use Rattle.gap_top.specs.Reporting.{report, IsReported, AreInOrder}

@@ -6,7 +6,7 @@ use Rattle.gap_cert.specs.declared.field.Version.TheVariants.{Two}
 use Rattle.gap_cert.specs.Certificates.{CertSection, Certificate, Encodes, spelling}
 use Rattle.gap_check.specs.Accepting.{Accepted}
 use Rattle.gap_check.specs.Histories.{IsFaultOf}
-use Rattle.gap_head.specs.HeadOf.{head_of}
+use Rattle.gap_valid.specs.HeadOf.{head_of}
 use Rattle.gap_model.specs.declared.cert_fault.CertFault.{CertFault}
 use Rattle.gap_model.specs.declared.cert_fault.CertKind.TheVariants.{Short}
 use Rattle.gap_model.specs.declared.outcome.Best.{Best}
@@ -16,7 +16,7 @@ use Rattle.gap_model.specs.Nodes.{splits_of}
 use Rattle.gap_model.specs.Settings.{Setting}
 use Rattle.gap_psd.specs.Shifts.{ShiftValue}
 use Rattle.gap_rule.specs.Certificates.{IsOfFiles}
-use Rattle.gap_shown.specs.Ended.{root_of}
+use Rattle.gap_solve.specs.Ended.{root_of}
 use Rattle.gap_sweep.specs.Asked.{Asked, Done, IsShiftOf}
 use Rattle.gap_sweep.specs.Certified.{sections_of, certificate, IsProperFront}
 use Rattle.gap_tangent.specs.Bounds.{setting_with}

@@ -21,7 +21,7 @@ use Rattle.gap_model.specs.Fronts.{Dominates}
 use Rattle.gap_model.specs.Leaves.{shows}
 use Rattle.gap_model.specs.Nodes.{part_at, leaf_at, split_at}
 use Rattle.gap_model.specs.Settings.{Setting}
-use Rattle.gap_shown.specs.Ended.{root_of}
+use Rattle.gap_solve.specs.Ended.{root_of}
 use Rattle.gap_solve.specs.Ends.{best_in, bound_in, is_bounded, eighths_in, HasFloor}
 use Rattle.gap_start.specs.Plain.{IsPlain}
 use Rattle.gap_sweep.specs.Asked.{Done}

@@ -9,7 +9,7 @@ use Rattle.gap_job.specs.Jobs.{job_in}
 use Rattle.gap_model.specs.Outcomes.{IsToldRight}
 use Rattle.gap_orlib.specs.Ports.{port}
 use Rattle.gap_rule.specs.Certificates.{IsOfFiles}
-use Rattle.gap_tell.specs.Telling.{verdict_report}
+use Rattle.gap_check.specs.Telling.{verdict_report}
 use Rattle.gap_valid.specs.Verdicts.{VerdictValue}
 use Rattle.gap_top.specs.Printing.{Prints, IfWritten, WritesAll}
 use Rattle.gap_top.specs.declared.stop.Stop.{Stop}

@@ -12,8 +12,8 @@ use Rattle.gap_sweep.specs.declared.style.Style.{Style}
 use Rattle.gap_sweep.specs.declared.style.Style.TheVariants.{Whole, Single}
 use Rattle.gap_sweep.specs.Asked.{Asked, Done}
 use Rattle.gap_sweep.specs.Runs.{Runs}
-use Rattle.gap_trace.specs.declared.halt.Halt.{Halt}
-use Rattle.gap_trace.specs.declared.halt.Halt.TheVariants as halt
+use Rattle.gap_files.specs.declared.halt.Halt.{Halt}
+use Rattle.gap_files.specs.declared.halt.Halt.TheVariants as halt
 use Rattle.gap_top.specs.Statuses.{status_number}
 use Rattle.gap_top.specs.Steps.{Refuses}
 use Rattle.gap_top.specs.Telling.{Tells}

@@ -22,10 +22,10 @@ ghost use Rattle.gap_top.specs.Answers.{Answers, FailedIn};
 ghost use Rattle.gap_top.specs.Telling.{IsChecked, IsVerified, SaysChecked, SaysVerified};
 ghost use Rattle.gap_top.specs.Headline.{Headline, Solves};
 ghost use Rattle.gap_top.specs.Statuses.{IsOneOf};
-ghost use Rattle.gap_trace.specs.Steps.{IsUnstarted};
+ghost use Rattle.gap_files.specs.Steps.{IsUnstarted};
 ghost use Rattle.gap_check.specs.Accepting.{Accepted};
 ghost use Rattle.gap_top.specs.Renewing.{LeavesFront};
-ghost use Rattle.gap_trace.specs.Marks.{stream};
+ghost use Rattle.gap_files.specs.Marks.{stream};
 ghost use Rattle.gap_upgrade.specs.Upgrading.{HoldsUpgrade};
 ghost use Rattle.gap_valid.specs.Verdicts.{VerdictValue};
 

@@ -6,10 +6,9 @@ ghost use Rattle.gap_top.specs.Working.{asked_for, ended_by, Sweeps, Renews, Doe
 use crate::print::end_by;
 use crate::stop::Stop;
 use crate::tell::tell;
-use gap_files::{Files, Sink};
+use gap_files::{Files, Halt, Sink};
 use gap_rule::{Halt as Ruled, Task, Work};
 use gap_sweep::{Style, solve_all};
-use gap_trace::Halt;
 use gap_upgrade::{Stop as UpgradeStop, upgrade};
 use gap_words::Refusal;
 use std::alloc::Global;

@@ -1,13 +1,12 @@
 //! What is printed of a certificate that was accepted.
 ghost use Rattle.std.specs.Prelude.{◌≡◌};
-ghost use Rattle.gap_tell.specs.Telling.{verdict_report};
+ghost use Rattle.gap_check.specs.Telling.{verdict_report};
 ghost use Rattle.gap_top.specs.Printing.{Prints};
 
 use crate::print::print;
 use crate::stop::Stop;
-use gap_check::Verdict;
+use gap_check::{Verdict, verdict_report};
 use gap_files::Sink;
-use gap_tell::verdict_report;
 use std::alloc::Global;
 
 /// Prints the report of a verdict; where memory is refused nothing of it.

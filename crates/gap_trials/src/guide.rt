@@ -7,7 +7,7 @@ ghost use Rattle.gap_model.specs.Priced.{problem_of, priced_shows};
 ghost use Rattle.gap_model.specs.Problems.{IsPart};
 ghost use Rattle.gap_model.specs.Tight.{is_tangent, IsTight};
 ghost use Rattle.gap_box.specs.Parts.{IsWithin};
-ghost use Rattle.gap_placed.specs.Showing.{ShowsSo};
+ghost use Rattle.gap_model.specs.Showing.{ShowsSo};
 ghost use Rattle.gap_search.specs.Boards.{FitsPart};
 ghost use Rattle.gap_trials.specs.Small.{small, small_whole, small_meets, small_in_range, cost_of};
 
@@ -15,10 +15,8 @@ use crate::pricing::{cost, list_at, lots_of, numbers, place};
 use crate::small::{Small, meets};
 use gap_base::{Lots, OutOfMemory};
 use gap_box::{Cell, Part, Side, Split};
-use gap_drive::{Branch, Guide};
-use gap_model::{Entry, Leaf, NodeBound, Shown};
-use gap_placed::Placed;
-use gap_search::Ticket;
+use gap_model::{Entry, Leaf, NodeBound, Placed, Shown};
+use gap_search::{Branch, Guide, Ticket};
 use std::alloc::Global;
 
 /// A guide that makes the first split that it finds. A child with more than one list gets the tangent that shows most

@@ -7,15 +7,15 @@ use Rattle.gap_cert.specs.Fields.{end_mark}
 use Rattle.gap_cert.specs.Certificates.{spelled}
 use Rattle.gap_cert.proofs.Numbers.{length-be}
 use Rattle.gap_files.specs.Outside.{FilesNow, SinkNow}
-use Rattle.gap_tell.specs.Telling.{verdict_report}
-use Rattle.gap_trace.specs.Drains.{Flows}
-use Rattle.gap_trace.specs.Marks.{Mark, appends, prints, streams, DidLess}
-use Rattle.gap_trace.specs.Steps.{Step, Closes}
-use Rattle.gap_trace.specs.declared.halt.Halt.{Halt}
-use Rattle.gap_trace.specs.declared.halt.Halt.TheVariants.{OutOfMemory}
-use Rattle.gap_trace.proofs.DrainLaws.{flows_end}
-use Rattle.gap_trace.proofs.MarkLaws.{appends-append, appends-none, did_none, length-appends, less_of_front, less_behind, appends_some}
-use Rattle.gap_trace.proofs.StepLaws.{gives_up_at_once, step_same, step_none, stops_early, then_step, closes_refused}
+use Rattle.gap_check.specs.Telling.{verdict_report}
+use Rattle.gap_files.specs.Drains.{Flows}
+use Rattle.gap_files.specs.Marks.{Mark, appends, prints, streams, DidLess}
+use Rattle.gap_files.specs.Steps.{Step, Closes}
+use Rattle.gap_files.specs.declared.halt.Halt.{Halt}
+use Rattle.gap_files.specs.declared.halt.Halt.TheVariants.{OutOfMemory}
+use Rattle.gap_files.proofs.DrainLaws.{flows_end}
+use Rattle.gap_files.proofs.MarkLaws.{appends-append, appends-none, did_none, length-appends, less_of_front, less_behind, appends_some}
+use Rattle.gap_files.proofs.StepLaws.{gives_up_at_once, step_same, step_none, stops_early, then_step, closes_refused}
 use Rattle.gap_valid.specs.Verdicts.{VerdictValue}
 use Rattle.gap_writer.specs.Writing.{Written, blank, put, end_bytes}
 use Rattle.gap_writer.proofs.ItemLaws.{end_some}

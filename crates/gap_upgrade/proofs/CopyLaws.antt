@@ -9,11 +9,11 @@ use Rattle.gap_files.specs.Outside.{FilesNow, SinkNow, Rose, ReadsAt, SameElsewh
 use Rattle.gap_files.proofs.FrontLaws.{front_more, inside_more}
 use Rattle.gap_model.specs.declared.cert_fault.CertFault.{CertFault}
 use Rattle.gap_scan.specs.Scans.{Scan}
-use Rattle.gap_trace.specs.Marks.{Mark, appends, streams, Did, DidFront}
-use Rattle.gap_trace.specs.Steps.{Step, Keeps}
-use Rattle.gap_trace.specs.declared.halt.Halt.{Halt}
-use Rattle.gap_trace.specs.declared.halt.Halt.TheVariants as halt
-use Rattle.gap_trace.proofs.MarkLaws.{appends-append, appends-none, did_none, did_both, front_behind}
+use Rattle.gap_files.specs.Marks.{Mark, appends, streams, Did, DidFront}
+use Rattle.gap_files.specs.Steps.{Step, Keeps}
+use Rattle.gap_files.specs.declared.halt.Halt.{Halt}
+use Rattle.gap_files.specs.declared.halt.Halt.TheVariants as halt
+use Rattle.gap_files.proofs.MarkLaws.{appends-append, appends-none, did_none, did_both, front_behind}
 use Rattle.gap_valid.specs.Verdicts.{VerdictValue}
 use Rattle.gap_writer.specs.Writing.{Written}
 use Rattle.gap_upgrade.specs.Copying.{body_bytes, HasCopied, IsNone, IsNoFront, IsWhole}

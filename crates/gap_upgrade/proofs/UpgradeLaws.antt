@@ -7,15 +7,15 @@ use Rattle.gap_cert.specs.declared.field.Version.TheVariants.{Two}
 use Rattle.gap_cert.specs.Certificates.{Certificate, spelling}
 use Rattle.gap_check.specs.Accepting.{Accepted}
 use Rattle.gap_files.specs.Outside.{FilesNow, SinkNow, Rose, bytes_of}
-use Rattle.gap_trace.specs.Marks.{Mark, to_file, to_sink, appends, prints, filed, Streams, stream, streams, started, Did, DidFront, DidLess}
-use Rattle.gap_trace.specs.Steps.{IsUnstarted, Opens, HasCause, Closes}
-use Rattle.gap_trace.specs.declared.halt.Halt.{Halt}
-use Rattle.gap_trace.specs.declared.halt.Halt.TheVariants as halt
+use Rattle.gap_files.specs.Marks.{Mark, to_file, to_sink, appends, prints, filed, Streams, stream, streams, started, Did, DidFront, DidLess}
+use Rattle.gap_files.specs.Steps.{IsUnstarted, Opens, HasCause, Closes}
+use Rattle.gap_files.specs.declared.halt.Halt.{Halt}
+use Rattle.gap_files.specs.declared.halt.Halt.TheVariants as halt
 use Rattle.gap_writer.specs.Writing.{end_bytes}
 use Rattle.gap_writer.proofs.ItemLaws.{end_some}
-use Rattle.gap_trace.proofs.MarkLaws.{did_both, appends-append, filed-append, filed-appends, filed-prints, front_of_more, length-appends, less_of_front, less_behind, last_filed}
+use Rattle.gap_files.proofs.MarkLaws.{did_both, appends-append, filed-append, filed-appends, filed-prints, front_of_more, length-appends, less_of_front, less_behind, last_filed}
 use Rattle.gap_valid.specs.Verdicts.{VerdictValue, verdict_of}
-use Rattle.gap_tell.specs.Telling.{verdict_report}
+use Rattle.gap_check.specs.Telling.{verdict_report}
 use Rattle.gap_upgrade.specs.Copying.{body_bytes}
 use Rattle.gap_upgrade.specs.Copies.{IfTold, KeepsFiles, CopyCause, IsFront, Copied, CopyStopped}
 use Rattle.gap_upgrade.specs.Stops.{stopped_by, IsUnrefused}

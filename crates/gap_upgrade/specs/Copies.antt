@@ -3,7 +3,7 @@ use Rattle.std.specs.Prelude.{◌≡◌, ◌≢◌, ℕ, List, ◌++◌, Result,
 use Rattle.std.specs.Option.{ForSome}
 use Rattle.gap_check.specs.Accepting.{Accepted}
 use Rattle.gap_files.specs.Outside.{FilesNow, SinkNow, Rose, NoneFell, SameElsewhere, bytes_of}
-use Rattle.gap_trace.specs.Marks.{streams, appends, Did, DidFront}
+use Rattle.gap_files.specs.Marks.{streams, appends, Did, DidFront}
 use Rattle.gap_valid.specs.Verdicts.{VerdictValue}
 use Rattle.gap_upgrade.specs.Copying.{body_bytes}
 use Rattle.gap_upgrade.specs.Stops.{IsUnrefused}

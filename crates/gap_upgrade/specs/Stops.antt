@@ -2,8 +2,8 @@
 use Rattle.std.specs.Prelude.{Result, Ok, Err}
 use Rattle.gap_judge.specs.declared.stop.CertStop.{CertStop}
 use Rattle.gap_judge.specs.declared.stop.CertStop.TheVariants as cert
-use Rattle.gap_trace.specs.declared.halt.Halt.{Halt}
-use Rattle.gap_trace.specs.declared.halt.Halt.TheVariants as halt
+use Rattle.gap_files.specs.declared.halt.Halt.{Halt}
+use Rattle.gap_files.specs.declared.halt.Halt.TheVariants as halt
 use Rattle.gap_upgrade.specs.declared.stop.Stop.{Stop}
 use Rattle.gap_upgrade.specs.declared.stop.Stop.TheVariants.{Refused, ReadFault, WriteFault, OutOfMemory}
 

@@ -4,10 +4,10 @@ use Rattle.gap_cert.specs.declared.field.Version.TheVariants.{Two}
 use Rattle.gap_cert.specs.Certificates.{Certificate, spelling}
 use Rattle.gap_check.specs.Accepting.{Accepted}
 use Rattle.gap_files.specs.Outside.{FilesNow, SinkNow, Rose}
-use Rattle.gap_tell.specs.Telling.{verdict_report}
-use Rattle.gap_trace.specs.Marks.{Mark, appends, prints, streams, started, Did, DidLess}
-use Rattle.gap_trace.specs.Steps.{Step, IsUnstarted}
-use Rattle.gap_trace.specs.declared.halt.Halt.{Halt}
+use Rattle.gap_check.specs.Telling.{verdict_report}
+use Rattle.gap_files.specs.Marks.{Mark, appends, prints, streams, started, Did, DidLess}
+use Rattle.gap_files.specs.Steps.{Step, IsUnstarted}
+use Rattle.gap_files.specs.declared.halt.Halt.{Halt}
 use Rattle.gap_writer.specs.Writing.{end_bytes}
 use Rattle.gap_valid.specs.Verdicts.{VerdictValue, verdict_of}
 use Rattle.gap_upgrade.specs.Copying.{body_bytes}

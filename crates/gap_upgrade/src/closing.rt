@@ -1,15 +1,13 @@
 //! What comes behind the items.
 ghost use Rattle.std.specs.Prelude.{◌≡◌};
 ghost use Rattle.gap_files.specs.Outside.{SinkNow};
-ghost use Rattle.gap_trace.specs.Marks.{appends};
-ghost use Rattle.gap_trace.specs.Steps.{Closes};
+ghost use Rattle.gap_files.specs.Marks.{appends};
+ghost use Rattle.gap_files.specs.Steps.{Closes};
 ghost use Rattle.gap_writer.specs.Writing.{end_bytes};
 ghost use Rattle.gap_upgrade.specs.Upgrading.{closing_trace};
 
-use gap_check::Verdict;
-use gap_files::{Files, Sink};
-use gap_tell::verdict_report;
-use gap_trace::{Halt, append, print};
+use gap_check::{Verdict, verdict_report};
+use gap_files::{Files, Halt, Sink, append, print};
 use gap_writer::Writer;
 use std::alloc::Global;
 

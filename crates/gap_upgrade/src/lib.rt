@@ -16,8 +16,7 @@ use crate::copying::copy;
 pub use crate::laws::{upgrades_encode, upgrades_stop_in_fronts};
 pub use crate::stop::Stop;
 use crate::stop::stopped;
-use gap_files::{Files, Sink};
-use gap_trace::start;
+use gap_files::{Files, Sink, start};
 use std::alloc::Global;
 
 /// Writes the certificate of the file `cert` to the file `new` in version 2.

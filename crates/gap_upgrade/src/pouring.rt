@@ -1,12 +1,11 @@
 //! A writer's bytes, appended to a file in pieces.
 ghost use Rattle.std.specs.Prelude.{◌≡◌, ◌<◌, ◌≤◌, [], length, OnOk};
 ghost use Rattle.gap_files.specs.Outside.{SinkNow};
-ghost use Rattle.gap_trace.specs.Marks.{appends};
-ghost use Rattle.gap_trace.specs.Steps.{Step};
+ghost use Rattle.gap_files.specs.Marks.{appends};
+ghost use Rattle.gap_files.specs.Steps.{Step};
 ghost use Rattle.gap_upgrade.specs.Pouring.{Pours};
 
-use gap_files::Files;
-use gap_trace::{Halt, append};
+use gap_files::{Files, Halt, append};
 use gap_writer::Writer;
 
 /// How many bytes go next: those that the writer has, and at most so many.

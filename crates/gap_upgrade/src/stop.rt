@@ -4,8 +4,8 @@ ghost use Rattle.gap_upgrade.specs.Stops.{stopped_by};
 
 use gap_base::OutOfMemory;
 use gap_check::CertStop;
+use gap_files::Halt;
 use gap_model::CertFault;
-use gap_trace::Halt;
 
 /// Why an upgrade stopped.
 #[derive(Clone, Copy, PartialEq, Eq, Debug)]

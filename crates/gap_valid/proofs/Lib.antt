@@ -3,3 +3,15 @@ pub mod ShownLaws
 pub mod TreeLaws
 pub mod BoundLaws
 pub mod WorkedLaws
+pub mod Items
+pub mod Reaches
+pub mod Sections
+pub mod Heads
+pub mod Validity
+pub mod Alone
+pub mod Same
+pub mod SaidLaws
+pub mod OrderLaws
+pub mod Entries
+pub mod HeadOfLaws
+pub mod Saying

@@ -3,3 +3,7 @@ pub mod CertTrees
 pub mod Valid
 pub mod Verdicts
 pub mod Worked
+pub mod Writable
+pub mod Said
+pub mod HeadOf
+pub mod Steps

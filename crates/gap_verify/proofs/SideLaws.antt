@@ -6,9 +6,9 @@ use Rattle.gap_base.specs.declared.weight.Weight.{Weight}
 use Rattle.gap_base.specs.Markets.{MarketValue, IsMarket, rho_of}
 use Rattle.gap_instance.specs.Instances.{InstanceValue, IsInstance}
 use Rattle.gap_valid.specs.Heads.{table}
-use Rattle.gap_head.specs.Said.{said_rho, said_market, said_instance, IsSaid}
-use Rattle.gap_head.proofs.Same.{list_same, table_same}
-use Rattle.gap_head.proofs.SaidLaws.{said_rho-two, said_rho-same, rho_said}
+use Rattle.gap_valid.specs.Said.{said_rho, said_market, said_instance, IsSaid}
+use Rattle.gap_valid.proofs.Same.{list_same, table_same}
+use Rattle.gap_valid.proofs.SaidLaws.{said_rho-two, said_rho-same, rho_said}
 use Rattle.gap_verify.specs.declared.field.Field.{Field}
 use Rattle.gap_verify.specs.declared.field.Field.TheVariants as field
 use Rattle.gap_verify.specs.declared.said.Said.TheVariants.{Number, Signed, Range, Limit, Fraction}

@@ -4,7 +4,7 @@ ghost use Rattle.std.specs.Prelude.{◌≡◌, ◌↔◌, List, All, length, Opt
 ghost use Rattle.gap_base.specs.declared.job.Job.{Job};
 ghost use Rattle.gap_base.specs.Markets.{MarketValue};
 ghost use Rattle.gap_instance.specs.Instances.{InstanceValue, IsInstance, instance_of};
-ghost use Rattle.gap_head.specs.Said.{said_instance, IsSaid};
+ghost use Rattle.gap_valid.specs.Said.{said_instance, IsSaid};
 ghost use Rattle.gap_verify.specs.declared.difference.Difference.{Difference};
 ghost use Rattle.gap_verify.specs.declared.field.Field.{Field};
 ghost use Rattle.gap_verify.specs.Sides.{Side, fields_of};

@@ -14,7 +14,7 @@ use Rattle.gap_cert.specs.declared.field.Version.TheVariants.{Two}
 use Rattle.gap_cert.specs.Bytes.{be, signed_be}
 use Rattle.gap_cert.specs.Fields.{bytes_of}
 use Rattle.gap_cert.specs.Certificates.{AssetLine, CertHead, asset_field, head_fields, spelled}
-use Rattle.gap_head.specs.HeadOf.{asset_line, pairs_below, rows_below, head_of}
+use Rattle.gap_valid.specs.HeadOf.{asset_line, pairs_below, rows_below, head_of}
 use Rattle.gap_writer.specs.HeadBytes.{line_bytes, lines_bytes, numbers_bytes}
 use Rattle.gap_writer.specs.Writing.{last_of}
 

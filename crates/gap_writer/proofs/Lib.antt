@@ -2,3 +2,5 @@ pub mod Spelled
 pub mod Entries
 pub mod Headed
 pub mod ItemLaws
+pub mod Pouring
+pub mod Waiting

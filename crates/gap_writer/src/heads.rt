@@ -8,7 +8,7 @@ ghost use Rattle.gap_psd.specs.Shifts.{r_of};
 ghost use Rattle.gap_cert.specs.declared.field.Field.TheVariants as field;
 ghost use Rattle.gap_cert.specs.declared.field.Version.TheVariants.{Two};
 ghost use Rattle.gap_cert.specs.Certificates.{head_fields, spelled};
-ghost use Rattle.gap_head.specs.HeadOf.{asset_line, pairs_below, rows_below, head_of};
+ghost use Rattle.gap_valid.specs.HeadOf.{asset_line, pairs_below, rows_below, head_of};
 ghost use Rattle.gap_writer.specs.HeadBytes.{line_bytes, lines_bytes, numbers_bytes};
 
 use crate::groups::{put_asset, put_field};

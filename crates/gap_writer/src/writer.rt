@@ -5,7 +5,7 @@ ghost use Rattle.gap_box.specs.Narrow.{asset_of};
 ghost use Rattle.gap_cert.specs.Certificates.{claim_of, head_fields, leaf_field, opening_fields};
 ghost use Rattle.gap_cert.specs.Contexts.{IsFieldIn};
 ghost use Rattle.gap_cert.specs.declared.field.Field.TheVariants as field;
-ghost use Rattle.gap_head.specs.HeadOf.{head_of};
+ghost use Rattle.gap_valid.specs.HeadOf.{head_of};
 ghost use Rattle.gap_solved.specs.Solveds.{cert_leaf_of};
 ghost use Rattle.gap_writer.specs.Writing.{blank, put, put_all};
 

@@ -1,4 +1,4 @@
-use Rattle.gap_head.specs.Steps.{IsSaidUpTo}
+use Rattle.gap_valid.specs.Steps.{IsSaidUpTo}
 use Rattle.gap_valid.specs.Heads.{market_in}
 use Rattle.gap_judge.proofs.built.market_of.Given as goal
 

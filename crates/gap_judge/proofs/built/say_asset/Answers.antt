@@ -1,7 +1,7 @@
 use Rattle.std.proofs.Common.{◌≡◌, ◌≤◌, ℕ, ℤ, ap, ◌∙◌, sym, w32, FitsSigned, unsigned_abs, arith}
 use Rattle.std.proofs.lemmas.Int.{to_z-of_z}
 use Rattle.gap_base.specs.Markets.{MarketValue, with_mean, with_deviation, mean_of, deviation_of}
-use Rattle.gap_head.proofs.Saying.{said_asset}
+use Rattle.gap_valid.proofs.Saying.{said_asset}
 use Rattle.gap_valid.specs.Heads.{market_in}
 use Rattle.gap_judge.specs.Lines.{asset_line}
 use Rattle.gap_judge.proofs.BuiltLaws.{mean_at, deviation_at, line_is}

@@ -1,7 +1,7 @@
 use Rattle.std.proofs.Common.{◌≡◌, ◌≤◌, ℤ, ap, ◌∙◌, sym, w32, FitsSigned, unsigned_abs, arith}
 use Rattle.std.proofs.lemmas.Int.{to_z-of_z}
 use Rattle.gap_base.specs.Markets.{with_rho, rho_of}
-use Rattle.gap_head.proofs.Saying.{said_pair}
+use Rattle.gap_valid.proofs.Saying.{said_pair}
 use Rattle.gap_valid.specs.Heads.{market_in}
 use Rattle.gap_judge.proofs.built.say_pairs.Goals as goal
 

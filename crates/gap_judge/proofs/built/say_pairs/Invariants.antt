@@ -1,5 +1,5 @@
 use Rattle.std.proofs.Common.{◌+◌}
-use Rattle.gap_head.specs.Steps.{IsSaidUpTo}
+use Rattle.gap_valid.specs.Steps.{IsSaidUpTo}
 use Rattle.gap_valid.specs.Heads.{market_in}
 use Rattle.gap_judge.proofs.built.say_pairs.Given as goal
 

@@ -7,7 +7,7 @@ use Rattle.gap_box.specs.declared.cell.Cell.{Cell}
 use Rattle.gap_model.specs.declared.shown.Shown.TheVariants.{AtLeast}
 use Rattle.gap_model.specs.Leaves.{shows, IsPoint}
 use Rattle.gap_tangent.specs.Seen.{setting_of}
-use Rattle.gap_shown.specs.Ended.{root_of}
+use Rattle.gap_solve.specs.Ended.{root_of}
 use Rattle.gap_solve.specs.Ends.{HasFloor}
 use Rattle.gap_solve.proofs.FloorLaws.{list_point}
 use Rattle.gap_solve.proofs.EndLaws.{root_tangent, root_witness, root_small, root_has_floor}

@@ -1,6 +1,6 @@
 use Rattle.std.proofs.lemmas.Result.{err_from_is_err_and}
-use Rattle.gap_trace.specs.Marks.{appends}
-use Rattle.gap_trace.proofs.StepLaws.{gives_up_at_once}
+use Rattle.gap_files.specs.Marks.{appends}
+use Rattle.gap_files.proofs.StepLaws.{gives_up_at_once}
 use Rattle.gap_sweep.specs.Texts.{head_bytes}
 use Rattle.gap_sweep.proofs.PartLaws.{head_appended, head_written}
 use Rattle.gap_sweep.proofs.parts.append_head.Goals as goal

@@ -1,7 +1,7 @@
 use Rattle.std.proofs.Common.{List, ℕ, take, Ok}
 use Rattle.gap_files.specs.Outside.{FilesNow}
-use Rattle.gap_trace.specs.Marks.{prints}
-use Rattle.gap_trace.specs.Steps.{Step}
+use Rattle.gap_files.specs.Marks.{prints}
+use Rattle.gap_files.specs.Steps.{Step}
 use Rattle.gap_sweep.specs.Texts.{front_text}
 use Rattle.gap_sweep.proofs.rows.print_rows.Given as goal
 

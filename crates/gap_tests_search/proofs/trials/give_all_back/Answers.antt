@@ -1,6 +1,6 @@
 use Rattle.std.proofs.Common.{◌≡◌, ◌<◌, List, Option, None, length, ap, ◌∙◌, arith, length-set}
 use Rattle.gap_box.specs.declared.node.NodeId.{NodeId}
-use Rattle.gap_drive.proofs.TurnLaws.{free_next, free_all}
+use Rattle.gap_search.proofs.TurnLaws.{free_next, free_all}
 use Rattle.gap_tests_search.proofs.trials.give_all_back.Goals as goal
 
 pub loop-worker-preserved : goal.loop-worker-preserved

@@ -1,7 +1,7 @@
 use Rattle.std.proofs.lemmas.Result.{err_from_is_err_and}
-use Rattle.gap_trace.specs.Marks.{appends}
-use Rattle.gap_trace.proofs.MarkLaws.{appends_some}
-use Rattle.gap_trace.proofs.StepLaws.{closes_refused, closes_with}
+use Rattle.gap_files.specs.Marks.{appends}
+use Rattle.gap_files.proofs.MarkLaws.{appends_some}
+use Rattle.gap_files.proofs.StepLaws.{closes_refused, closes_with}
 use Rattle.gap_writer.specs.Writing.{end_bytes}
 use Rattle.gap_writer.proofs.ItemLaws.{end_some, end_written}
 use Rattle.gap_upgrade.proofs.closing.append_end.Goals as goal

@@ -1,7 +1,7 @@
 use Rattle.std.proofs.Common.{rules, ◌≡◌, length, refl, sym, ap, ◌∙◌}
 use Rattle.std.proofs.lemmas.List.{nil_from_length}
 use Rattle.std.proofs.lemmas.Result.{err_from_is_err_and}
-use Rattle.gap_trace.proofs.DrainLaws.{flows_none, flows_both, flows_end}
+use Rattle.gap_files.proofs.DrainLaws.{flows_none, flows_both, flows_end}
 use Rattle.gap_upgrade.proofs.CloseLaws.{all_gone}
 use Rattle.gap_upgrade.proofs.pouring.pour.Goals as goal
 

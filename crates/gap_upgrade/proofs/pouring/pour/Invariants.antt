@@ -1,6 +1,6 @@
 use Rattle.std.proofs.Common.{◌≡◌, length}
 use Rattle.gap_files.specs.Outside.{SinkNow}
-use Rattle.gap_trace.specs.Drains.{Flows}
+use Rattle.gap_files.specs.Drains.{Flows}
 use Rattle.gap_upgrade.proofs.pouring.pour.Given as goal
 
 abbrev pub invariant-pieces : goal.invariant-pieces

@@ -1,6 +1,6 @@
 use Rattle.std.proofs.Common.{◌≡◌, ℕ, ◌++◌, subst, arith}
 use Rattle.gap_base.specs.Markets.{rho_of}
-use Rattle.gap_head.specs.HeadOf.{pairs_below}
+use Rattle.gap_valid.specs.HeadOf.{pairs_below}
 use Rattle.gap_writer.specs.HeadBytes.{numbers_bytes}
 use Rattle.gap_writer.proofs.Headed.{pairs_none, pairs_on}
 use Rattle.gap_writer.proofs.heads.put_correlations.Goals as goal

@@ -1,6 +1,6 @@
 use Rattle.std.proofs.Common.{◌≡◌, ◌++◌}
 use Rattle.gap_base.specs.Markets.{rho_of}
-use Rattle.gap_head.specs.HeadOf.{pairs_below}
+use Rattle.gap_valid.specs.HeadOf.{pairs_below}
 use Rattle.gap_writer.specs.HeadBytes.{numbers_bytes}
 use Rattle.gap_writer.proofs.heads.put_correlations.Given as goal
 

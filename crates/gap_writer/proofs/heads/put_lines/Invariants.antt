@@ -1,6 +1,6 @@
 use Rattle.std.proofs.Common.{◌≡◌, ◌++◌, map}
 use Rattle.std.specs.List.{range_with_len}
-use Rattle.gap_head.specs.HeadOf.{asset_line}
+use Rattle.gap_valid.specs.HeadOf.{asset_line}
 use Rattle.gap_writer.specs.HeadBytes.{lines_bytes}
 use Rattle.gap_writer.proofs.heads.put_lines.Given as goal
 

@@ -1,6 +1,6 @@
 use Rattle.std.proofs.Common.{◌≡◌, ℕ, ◌++◌, subst, arith}
 use Rattle.gap_psd.specs.Shifts.{r_of}
-use Rattle.gap_head.specs.HeadOf.{rows_below}
+use Rattle.gap_valid.specs.HeadOf.{rows_below}
 use Rattle.gap_writer.specs.HeadBytes.{numbers_bytes}
 use Rattle.gap_writer.proofs.Headed.{rows_none, rows_on}
 use Rattle.gap_writer.proofs.heads.put_rows.Goals as goal

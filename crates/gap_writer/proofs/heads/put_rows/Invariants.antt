@@ -1,6 +1,6 @@
 use Rattle.std.proofs.Common.{◌≡◌, ◌++◌}
 use Rattle.gap_psd.specs.Shifts.{r_of}
-use Rattle.gap_head.specs.HeadOf.{rows_below}
+use Rattle.gap_valid.specs.HeadOf.{rows_below}
 use Rattle.gap_writer.specs.HeadBytes.{numbers_bytes}
 use Rattle.gap_writer.proofs.heads.put_rows.Given as goal
 

@@ -3,7 +3,7 @@ use Rattle.gap_box.specs.declared.cell.Cell.{Cell}
 use Rattle.gap_box.specs.declared.split.Side.TheVariants.{First, Second}
 use Rattle.gap_box.specs.Splits.{lawful_split, child_cells}
 use Rattle.gap_model.specs.Problems.{tangent_problem}
-use Rattle.gap_placed.specs.Showing.{ShowsSo}
+use Rattle.gap_model.specs.Showing.{ShowsSo}
 use Rattle.gap_tangent.specs.Seen.{setting_of}
 use Rattle.gap_leaf.specs.Finding.{HintValue, IsLeafFor}
 use Rattle.gap_guide.proofs.ChildLaws.{open_tangent, part_length, branch_is}

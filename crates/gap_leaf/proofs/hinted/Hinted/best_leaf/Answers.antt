@@ -6,7 +6,7 @@ use Rattle.gap_base.specs.declared.witness.Witness.{Witness}
 use Rattle.gap_box.specs.Parts.{can_meet, IsSingle, IsWithin, root_cells}
 use Rattle.gap_model.specs.Settings.{Setting}
 use Rattle.gap_model.specs.Problems.{tangent_problem}
-use Rattle.gap_placed.specs.Showing.{ShowsSo}
+use Rattle.gap_model.specs.Showing.{ShowsSo}
 use Rattle.gap_tangent.specs.Seen.{setting_of}
 use Rattle.gap_witness.specs.Having.{HasTangentPoint}
 use Rattle.gap_leaf.specs.Candidates.{theta_at, IsCandidate}

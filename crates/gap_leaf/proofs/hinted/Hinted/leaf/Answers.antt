@@ -9,7 +9,7 @@ use Rattle.gap_tangent.specs.Seen.{setting_of}
 use Rattle.gap_model.specs.declared.leaf.Leaf.{Leaf}
 use Rattle.gap_model.specs.Leaves.{shows}
 use Rattle.gap_model.specs.Problems.{tangent_problem}
-use Rattle.gap_placed.specs.Showing.{ShowsSo}
+use Rattle.gap_model.specs.Showing.{ShowsSo}
 use Rattle.gap_leaf.specs.Finding.{HintValue, IsLeafFor}
 use Rattle.gap_leaf.proofs.KindLaws.{asked_by, count_empty, count_leaf, void_leaf, counted_by}
 use Rattle.gap_leaf.proofs.TryLaws.{void_found}

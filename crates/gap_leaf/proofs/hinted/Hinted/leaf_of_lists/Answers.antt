@@ -3,7 +3,7 @@ use Rattle.gap_base.specs.declared.witness.Witness.{Witness}
 use Rattle.gap_box.specs.Parts.{can_meet, IsSingle, IsWithin, root_cells}
 use Rattle.gap_model.specs.declared.leaf.Leaf.{Leaf}
 use Rattle.gap_model.specs.Problems.{tangent_problem}
-use Rattle.gap_placed.specs.Showing.{ShowsSo}
+use Rattle.gap_model.specs.Showing.{ShowsSo}
 use Rattle.gap_tangent.specs.Seen.{setting_of}
 use Rattle.gap_leaf.specs.Entries.{IsTangentOf}
 use Rattle.gap_leaf.specs.Voids.{first_void}

@@ -4,7 +4,7 @@ use Rattle.gap_box.specs.declared.split.Side.TheVariants.{First, Second}
 use Rattle.gap_box.specs.Splits.{lawful_split, child_cells}
 use Rattle.gap_model.specs.declared.shown.Shown.{Shown}
 use Rattle.gap_model.specs.Order.{ShownLe}
-use Rattle.gap_placed.specs.Showing.{ShowsSo}
+use Rattle.gap_model.specs.Showing.{ShowsSo}
 use Rattle.gap_search.specs.Boards.{FitsPart}
 use Rattle.gap_trials.specs.Small.{small}
 use Rattle.gap_trials.proofs.guide.ListingGuideSmall.branch.Goals as goal

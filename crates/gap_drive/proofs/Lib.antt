@@ -1,2 +1,0 @@
-pub mod DrivenLaws
-pub mod TurnLaws

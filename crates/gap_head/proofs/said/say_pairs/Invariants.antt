@@ -1,6 +1,0 @@
-use Rattle.std.proofs.Common.{◌+◌}
-use Rattle.gap_head.specs.Steps.{IsSaidUpTo}
-use Rattle.gap_head.proofs.said.say_pairs.Given as goal
-
-abbrev pub invariant-loop-j : goal.invariant-loop-j
-invariant-loop-j l = IsSaidUpTo l.market l.said (l.i + 1) l.i l.j

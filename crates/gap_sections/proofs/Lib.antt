@@ -1,2 +1,0 @@
-pub mod Pouring
-pub mod Waiting

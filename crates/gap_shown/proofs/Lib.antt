@@ -1,4 +1,0 @@
-pub mod CountLaws
-pub mod TreeLaws
-pub mod LeafLaws
-pub mod EndLaws

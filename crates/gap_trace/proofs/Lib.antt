@@ -1,4 +1,0 @@
-pub mod MarkLaws
-pub mod StepLaws
-pub mod DrainLaws
-mod PutLaws
