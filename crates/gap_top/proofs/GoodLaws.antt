@@ -88,7 +88,7 @@ one_section I shift nodes warm weight d done =
     let is = done.section_is in
     record {
       tells = told_back I.market.assets d is;
-      splits = ap cert_splits is.tree_is ∙ cert_splits_of I.market.assets is.tree ∙ splits_counted d.solved.nodes solved.grown.tree_is is.tree is.stands;
+      splits = ap cert_splits is.tree_is ∙ cert_splits_of I.market.assets is.tree ∙ splits_counted d.solved.nodes solved.ended.searched.tree_is is.tree is.stands;
       shown = λ best bound e. solved.shown best bound d.section e is;
     }
 
